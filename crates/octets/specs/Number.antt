@@ -1,0 +1,35 @@
+-- Numbers held in bytes, for every width: read at a place of a list of bytes, and as the bytes to put there.
+-- Past the end of the list a byte reads as 0. Assumes nothing.
+use Prim.Native.Nat.{ℕ, zero, suc, _+_, _*_, _/_, _%_, _^_, _≤_}
+use mathlib.Core.List.{List, [], _∷_}
+use lib.ListN.{length, getD}
+use lib.Seq.{sets}
+use mathlib.Core.Path.{_≡_}
+
+-- the number in `width` bytes from `at` on, least significant byte first
+unfoldable pub leAt : ℕ → List ℕ → ℕ → ℕ
+leAt zero bytes at = 0
+leAt (suc width) bytes at = getD bytes at 0 + 256 * leAt width bytes (at + 1)
+
+-- the number in `width` bytes from `at` on, most significant byte first
+unfoldable pub beAt : ℕ → List ℕ → ℕ → ℕ
+beAt zero bytes at = 0
+beAt (suc width) bytes at = 256 ^ width * getD bytes at 0 + beAt width bytes (at + 1)
+
+-- the `width` low bytes of a number, least significant first
+unfoldable pub leBytes : ℕ → ℕ → List ℕ
+leBytes zero n = []
+leBytes (suc width) n = n % 256 ∷ leBytes width (n / 256)
+
+-- the `width` low bytes of a number, most significant first
+unfoldable pub beBytes : ℕ → ℕ → List ℕ
+beBytes zero n = []
+beBytes (suc width) n = n / 256 ^ width % 256 ∷ beBytes width n
+
+-- a room with bytes stored one by one from `at` on; past its end nothing is stored
+unfoldable pub stored : List ℕ → ℕ → List ℕ → List ℕ
+stored room at bytes = sets room at bytes
+
+-- the claim that what was put reads back: read at its place, it is the number's low bytes, and so the number itself where it fits
+abbrev pub ReadsBack : (ℕ → ℕ → List ℕ) → (ℕ → List ℕ → ℕ → ℕ) → Type 0
+ReadsBack bytesOf numberAt = (width n at : ℕ) (room : List ℕ) → at + width ≤ length room → numberAt width (stored room at (bytesOf width n)) at ≡ n % 256 ^ width

@@ -1,0 +1,3 @@
+pub mod SlotLaws
+pub mod Scanned
+pub mod Calling

@@ -1,0 +1,14 @@
+-- `schedule::begin` meets its contract. Assumes nothing.
+use Rattle.schedule.proofs.SlotLaws.{slots}
+use borrow.Author.Needs.{needs}
+use Rattle.schedule.proofs.begin.Statement.{statement}
+use Rattle.schedule.proofs.begin.Tie as tie
+
+slot-offset-requires : tie.Need-slot-offset-requires
+slot-offset-requires c κs = search needs
+
+returns : tie.Need-returns
+returns c = search (needs, slots)
+
+pub begin-spec : {M : Type 1} → statement M
+begin-spec = tie.close (tie.spec slot-offset-requires returns)

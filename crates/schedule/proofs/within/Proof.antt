@@ -1,0 +1,34 @@
+-- `schedule::within` meets its contract. Assumes nothing.
+use Rattle.schedule.proofs.SlotLaws.{slots}
+use borrow.Author.Needs.{needs}
+use Rattle.schedule.proofs.within.Statement.{statement}
+use Rattle.schedule.proofs.within.Tie as tie
+
+both-requires : tie.Need-both-requires
+both-requires c κs = search needs
+
+both-requires-2 : tie.Need-both-requires-2
+both-requires-2 c κs = search needs
+
+both-requires-3 : tie.Need-both-requires-3
+both-requires-3 c κs = search needs
+
+both-requires-4 : tie.Need-both-requires-4
+both-requires-4 c κs = search needs
+
+both-requires-5 : tie.Need-both-requires-5
+both-requires-5 c κs = search needs
+
+returns : tie.Need-returns
+returns c = search (needs, slots)
+
+pub within-spec : {M : Type 1} → statement M
+within-spec =
+    tie.close
+    (tie.spec
+    both-requires
+    both-requires-2
+    both-requires-3
+    both-requires-4
+    both-requires-5
+    returns)

@@ -1,0 +1,115 @@
+// Runs worked values through the library and prints one line for each; the file `stdout` beside src/ has what they must be.
+use beacon::Link;
+
+fn put(name: &[u8], n: u64) {
+    io::write_all(1, name);
+    io::print_decimal(1, n);
+}
+
+fn channel(asn: u64, offset: u16) {
+    put(b"asn ", asn);
+    put(b" offset ", offset as u64);
+    put(b" channel ", hopping::channel(asn, offset) as u64);
+    io::write_all(1, b"\n");
+}
+
+fn action(action: u8) {
+    match action {
+        0 => {
+            io::write_all(1, b" sleep");
+        }
+        1 => {
+            io::write_all(1, b" transmit");
+        }
+        _ => {
+            io::write_all(1, b" listen");
+        }
+    }
+}
+
+// The decision on the first `count` links.
+fn slot(links: [Link; 16], count: usize, size: u16, id: u8, asn: u64, waits: bool) {
+    put(b"links ", count as u64);
+    put(b" size ", size as u64);
+    put(b" sequence ", id as u64);
+    put(b" asn ", asn);
+    if waits {
+        io::write_all(1, b" waiting");
+    }
+    let answer = schedule::answer(schedule::decide_listed(links, count, size, id, asn, waits));
+    put(b": number ", answer.number as u64);
+    action(answer.action);
+    put(b" place ", answer.place as u64);
+    put(b" channel ", answer.channel as u64);
+    io::write_all(1, b"\n");
+}
+
+// The schedule of RFC 8180: one shared cell in slot 0 of a slotframe, to transmit and receive.
+fn minimal() -> [Link; 16] {
+    let mut links = [beacon::blank_link(); 16];
+    links[0] = Link {
+        timeslot: 0,
+        offset: 0,
+        options: 15,
+    };
+    links
+}
+
+// Links in slots 3 and 5 that may only receive, transmit, or do both, on other channel offsets.
+fn mixed() -> [Link; 16] {
+    let mut links = [beacon::blank_link(); 16];
+    links[0] = Link {
+        timeslot: 5,
+        offset: 1,
+        options: 4,
+    };
+    links[1] = Link {
+        timeslot: 3,
+        offset: 2,
+        options: 2,
+    };
+    links[2] = Link {
+        timeslot: 3,
+        offset: 65535,
+        options: 1,
+    };
+    links[3] = Link {
+        timeslot: 3,
+        offset: 4,
+        options: 3,
+    };
+    links
+}
+
+fn channels() {
+    channel(11, 0);
+    channel(1099511627775, 0);
+    channel(1099511627775, 1);
+}
+
+fn slots() {
+    slot(minimal(), 1, 11, 0, 256, true);
+    slot(minimal(), 1, 11, 0, 264, true);
+    slot(minimal(), 1, 11, 0, 264, false);
+    slot(minimal(), 1, 101, 0, 1099511627775, false);
+    slot(mixed(), 4, 7, 0, 24, true);
+    slot(mixed(), 4, 7, 0, 24, false);
+    slot(mixed(), 2, 7, 0, 24, true);
+    slot(mixed(), 4, 7, 0, 26, true);
+}
+
+fn limits() {
+    slot(minimal(), 1, 0, 0, 264, true);
+    slot(minimal(), 0, 11, 0, 264, true);
+    slot(minimal(), 16, 11, 0, 264, true);
+    slot(minimal(), 17, 11, 0, 264, true);
+    slot(mixed(), 4, 5, 0, 24, true);
+    slot(minimal(), 1, 11, 1, 264, true);
+    slot(minimal(), 1, 11, 0, 1099511627776, true);
+}
+
+fn main() {
+    channels();
+    slots();
+    limits();
+}

@@ -1,0 +1,264 @@
+//! Counts of what random cases reached, so that a test fails when its cases miss something.
+
+use crate::calls::CallList;
+use crate::stability::Run;
+use crate::table::{Call, Place, Table};
+use std::collections::BTreeMap;
+
+/// How often each named thing was met.
+#[derive(Clone, Debug, Default)]
+pub struct Counts(BTreeMap<String, usize>);
+
+impl Counts {
+    pub fn add(&mut self, name: impl Into<String>) {
+        *self.0.entry(name.into()).or_default() += 1;
+    }
+
+    pub fn add_if(&mut self, met: bool, name: impl Into<String>) {
+        if met {
+            self.add(name);
+        }
+    }
+
+    /// Prints the counts; panics unless exactly these names were met, each at least `least` times.
+    pub fn expect(&self, title: &str, least: usize, names: &[&str]) {
+        let count = |name: &str| self.0.get(name).copied().unwrap_or(0);
+        println!("{title}");
+        for name in names {
+            println!("{:>8}  {name}", count(name));
+        }
+        for name in names {
+            assert!(count(name) >= least, "{title}: met {} times, not {least}: {name}", count(name));
+        }
+        for name in self.0.keys() {
+            assert!(names.contains(&name.as_str()), "{title}: met, but not in the list: {name}");
+        }
+    }
+}
+
+/// What lists of calls on neighbour tables reached.
+#[derive(Clone, Debug, Default)]
+pub struct TableCoverage {
+    tables: Counts,
+    calls: Counts,
+    choices: Counts,
+    lists: Counts,
+    lengths: BTreeMap<usize, usize>,
+}
+
+impl TableCoverage {
+    /// Counts a list and its run by the reference.
+    pub fn add(&mut self, list: &CallList, run: &Run) {
+        *self.lengths.entry(list.calls.len()).or_default() += 1;
+        self.add_table(&list.table);
+        let mut table = list.table.clone();
+        for call in &list.calls {
+            let answer = table.call(call);
+            self.calls.add(call_name(&table, call, answer.number));
+            if *call == Call::Evaluate && answer.number == 0 {
+                self.choices.add(choice_name(&table, &answer.table));
+                self.add_tie(&table, &answer.table);
+            }
+            table = answer.table;
+        }
+        self.add_run(run);
+    }
+
+    fn add_table(&mut self, table: &Table) {
+        let used: Vec<&Place> = table.places.iter().filter(|place| place.used).collect();
+        let any = |rule: &dyn Fn(&Place) -> bool| used.iter().any(|place| rule(place));
+        let counts = &mut self.tables;
+
+        let same = |place: &Place| used.iter().filter(|other| other.identifier == place.identifier).count();
+        let free_not_zero = table.places.iter().any(|place| !place.used && *place != Place::default());
+        let held_missing = table.held.is_some_and(|held| !any(&|place| place.identifier == held));
+        counts.add_if(any(&|place| place.attempts > 255), "not sound, t over 255");
+        counts.add_if(any(&|place| place.acknowledged > place.attempts), "not sound, a over t");
+        counts.add_if(free_not_zero, "not sound, free place not zero");
+        counts.add_if(any(&|place| same(place) > 1), "not sound, identifier twice");
+        counts.add_if(held_missing, "not sound, held parent not there");
+        if !table.sound() {
+            return;
+        }
+        counts.add("sound");
+        counts.add_if(used.is_empty(), "empty");
+        counts.add_if(used.len() == table.places.len(), "full");
+        counts.add_if(any(&|place| place.identifier == 0), "identifier 0");
+        counts.add_if(any(&|place| place.identifier == u64::MAX), "identifier 2^64 - 1");
+        counts.add_if(table.held == Some(0), "held parent 0");
+        counts.add_if(table.held == Some(u64::MAX), "held parent 2^64 - 1");
+        for rank in [255, 256, 65534, 65535] {
+            counts.add_if(any(&|place| place.rank == rank), format!("rank {rank}"));
+        }
+        counts.add_if(any(&|place| place.attempts == 255), "t 255");
+        counts.add_if(
+            any(&|place| place.attempts > 0 && 3 * place.attempts == 11 * place.acknowledged),
+            "3t equal to 11a",
+        );
+        counts.add_if(any(&|place| place.cost() == Some(65534)), "cost 65534");
+        counts.add_if(any(&|place| place.cost() == Some(65535)), "cost 65535");
+        let gap = table.places.windows(2).any(|pair| !pair[0].used && pair[1].used);
+        counts.add_if(gap, "free place before a used one");
+    }
+
+    /// Counts a parent newly taken from several of the same cost.
+    fn add_tie(&mut self, table: &Table, after: &Table) {
+        let (Some(parent), true) = (after.held_place(), table.held != after.held) else {
+            return;
+        };
+        let index = table.find(parent.identifier).expect("the parent is a neighbour");
+        let ties = |place: &Place| place.eligible() && place.cost() == parent.cost();
+        let earlier = table.places[..index].iter().any(ties);
+        let far = |place: &Place| ties(place) && place.identifier >> 63 != parent.identifier >> 63;
+        self.choices.add_if(earlier, "tie, lower identifier in a later place");
+        self.choices.add_if(table.places.iter().any(far), "tie, the other identifier from 2^63 on");
+    }
+
+    fn add_run(&mut self, run: &Run) {
+        let (true, Some(slack)) = (run.claim_applies(), run.slack()) else {
+            self.lists.add("claim does not apply");
+            return;
+        };
+        self.lists.add(match (run.changes(), run.rises(), slack) {
+            (0, 0, _) => "applies, no change, no rise",
+            (0, _, _) => "applies, no change, rises",
+            (_, 0, 0) => "applies, changes, no rise, bound met with equality",
+            (_, 0, _) => "applies, changes, no rise",
+            (_, _, 0) => "applies, changes, rises, bound met with equality",
+            (_, _, _) => "applies, changes, rises",
+        });
+        self.lists.add_if(slack == 0 && run.changes() >= 15, "15 changes or more, bound met with equality");
+    }
+
+    /// Panics unless everything that such lists can do was met at least `least` times, and every length.
+    pub fn expect(&self, least: usize, longest: usize) {
+        self.tables.expect(
+            "tables given",
+            least,
+            &[
+                "sound",
+                "empty",
+                "full",
+                "identifier 0",
+                "identifier 2^64 - 1",
+                "held parent 0",
+                "held parent 2^64 - 1",
+                "rank 255",
+                "rank 256",
+                "rank 65534",
+                "rank 65535",
+                "t 255",
+                "3t equal to 11a",
+                "cost 65534",
+                "cost 65535",
+                "free place before a used one",
+                "not sound, t over 255",
+                "not sound, a over t",
+                "not sound, free place not zero",
+                "not sound, identifier twice",
+                "not sound, held parent not there",
+            ],
+        );
+        self.calls.expect(
+            "calls and their numbers",
+            least,
+            &[
+                "advertise 0, known neighbour",
+                "advertise 0, new neighbour",
+                "advertise 8",
+                "advertise 11",
+                "report 0, t stays below 255",
+                "report 0, t becomes 255",
+                "report 0, halved",
+                "report 8, table",
+                "report 8, no attempts",
+                "report 8, over 4 attempts",
+                "report 8, attempts of an unknown neighbour",
+                "report 10",
+                "forget 0",
+                "forget 0, held parent",
+                "forget 8",
+                "forget 10",
+                "evaluate 0",
+                "evaluate 8",
+            ],
+        );
+        self.choices.expect(
+            "evaluations",
+            least,
+            &[
+                "no parent, none eligible",
+                "parent dropped, none eligible",
+                "first parent",
+                "parent not eligible, best taken",
+                "parent changed, gain of exactly 641",
+                "parent changed, gain over 641",
+                "parent kept, gain of exactly 640",
+                "parent kept, gain below 640",
+                "parent kept, no gain",
+                "tie, lower identifier in a later place",
+                "tie, the other identifier from 2^63 on",
+            ],
+        );
+        self.lists.expect(
+            "lists",
+            least,
+            &[
+                "claim does not apply",
+                "applies, no change, no rise",
+                "applies, no change, rises",
+                "applies, changes, no rise",
+                "applies, changes, no rise, bound met with equality",
+                "applies, changes, rises",
+                "applies, changes, rises, bound met with equality",
+                "15 changes or more, bound met with equality",
+            ],
+        );
+        let met: Vec<usize> = self.lengths.keys().copied().collect();
+        let wanted: Vec<usize> = (1..=longest).collect();
+        assert_eq!(met, wanted, "lengths of lists");
+    }
+}
+
+/// The call and its number, with the reason where one number has several.
+fn call_name(table: &Table, call: &Call, number: u8) -> String {
+    match *call {
+        Call::Advertise { identifier, .. } if number == 0 => match table.find(identifier) {
+            Some(_) => "advertise 0, known neighbour".into(),
+            None => "advertise 0, new neighbour".into(),
+        },
+        Call::Advertise { .. } => format!("advertise {number}"),
+        Call::Report { identifier, attempts, .. } => match (number, table.find(identifier)) {
+            (0, Some(index)) => match table.places[index].attempts + attempts {
+                0..255 => "report 0, t stays below 255".into(),
+                255 => "report 0, t becomes 255".into(),
+                256.. => "report 0, halved".into(),
+            },
+            (8, _) if !table.sound() => "report 8, table".into(),
+            (8, None) => "report 8, attempts of an unknown neighbour".into(),
+            (8, Some(_)) if attempts == 0 => "report 8, no attempts".into(),
+            (8, Some(_)) => "report 8, over 4 attempts".into(),
+            _ => format!("report {number}"),
+        },
+        Call::Forget { identifier } if number == 0 && table.held == Some(identifier) => "forget 0, held parent".into(),
+        Call::Forget { .. } => format!("forget {number}"),
+        Call::Evaluate => format!("evaluate {number}"),
+    }
+}
+
+/// What an evaluation that was not refused did.
+fn choice_name(table: &Table, after: &Table) -> &'static str {
+    let cost = |place: Option<&Place>| place.filter(|place| place.eligible()).and_then(Place::cost);
+    let gain = cost(table.held_place()).zip(cost(table.best())).map(|(held, best)| held - best);
+    match (table.held, after.held, gain) {
+        (None, None, _) => "no parent, none eligible",
+        (Some(_), None, _) => "parent dropped, none eligible",
+        (None, Some(_), _) => "first parent",
+        (Some(_), Some(_), None) => "parent not eligible, best taken",
+        (before, now, Some(641)) if before != now => "parent changed, gain of exactly 641",
+        (before, now, Some(_)) if before != now => "parent changed, gain over 641",
+        (_, _, Some(640)) => "parent kept, gain of exactly 640",
+        (_, _, Some(0)) => "parent kept, no gain",
+        (_, _, Some(_)) => "parent kept, gain below 640",
+    }
+}

@@ -1,0 +1,12 @@
+//! Independent reference for the library's rules, written from the rules alone and for plainness, not speed.
+//! The differential tests put the same questions to it and to the static library and compare the answers.
+
+pub mod calls;
+pub mod coverage;
+pub mod library;
+pub mod metric;
+pub mod random;
+pub mod refusal;
+pub mod slot;
+pub mod stability;
+pub mod table;

@@ -1,0 +1,70 @@
+//! What a node does in a slot, and on which channel: the reference for the slot decision.
+
+use crate::refusal::OUTSIDE_LIMITS;
+
+/// One link of the schedule. Laid out as in C, so that one list can be lent to the reference and to the library.
+#[derive(Clone, Copy, Debug, PartialEq, Eq)]
+#[repr(C)]
+pub struct Link {
+    pub timeslot: u16,
+    pub offset: u16,
+    pub options: u8,
+}
+
+/// Option bit 0: the link may transmit.
+pub const TRANSMIT_BIT: u8 = 1;
+/// Option bit 1: the link may receive.
+pub const RECEIVE_BIT: u8 = 2;
+
+pub const SLEEP: u8 = 0;
+pub const TRANSMIT: u8 = 1;
+pub const LISTEN: u8 = 2;
+
+/// The answer: `number` is 0 or the refusal number; `place` counts the lent links from 0.
+#[derive(Clone, Copy, Debug, PartialEq, Eq)]
+#[repr(C)]
+pub struct Slot {
+    pub number: u8,
+    pub action: u8,
+    pub channel: u8,
+    pub place: usize,
+}
+
+pub const LARGEST_ASN: u64 = (1 << 40) - 1;
+pub const MOST_LINKS: usize = 16;
+
+/// Default hopping sequence of the 2.4 GHz O-QPSK PHY.
+pub const HOPPING_SEQUENCE: [u8; 16] = [16, 17, 23, 18, 26, 15, 25, 22, 19, 11, 12, 13, 24, 14, 20, 21];
+
+/// Entry (ASN + channel offset) mod 16 of the hopping sequence, for every ASN that 64 bits hold.
+pub fn channel(asn: u64, offset: u16) -> u8 {
+    let sum = asn as u128 + offset as u128;
+    HOPPING_SEQUENCE[(sum % 16) as usize]
+}
+
+/// What to do in the slot `asn`, where `waits` says that a frame waits to be sent.
+pub fn decide(links: &[Link], size: u16, id: u8, asn: u64, waits: bool) -> Slot {
+    let sleep = Slot { number: 0, action: SLEEP, channel: 0, place: 0 };
+    let refused = Slot { number: OUTSIDE_LIMITS, ..sleep };
+
+    if size == 0 || links.is_empty() || links.len() > MOST_LINKS || id != 0 || asn > LARGEST_ASN {
+        return refused;
+    }
+    if links.iter().any(|link| link.timeslot >= size) {
+        return refused;
+    }
+
+    let now = asn % u64::from(size);
+    let first = |bit: u8| links.iter().position(|link| u64::from(link.timeslot) == now && link.options & bit != 0);
+    let on = |action: u8, place: usize| Slot { number: 0, action, channel: channel(asn, links[place].offset), place };
+
+    if waits {
+        if let Some(place) = first(TRANSMIT_BIT) {
+            return on(TRANSMIT, place);
+        }
+    }
+    match first(RECEIVE_BIT) {
+        Some(place) => on(LISTEN, place),
+        None => sleep,
+    }
+}
