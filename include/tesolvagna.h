@@ -1,5 +1,5 @@
 /*
- * C interface of Tesolvagna, a proved library for 6TiSCH Enhanced Beacons. Link with libffi.a (64-bit targets).
+ * C interface of Tesolvagna, a proved library for 6TiSCH Enhanced Beacons. Link with libtesolvagna.a (64-bit targets).
  *
  * Every function answers on every input; what a caller owes is only that a pointer is what its comment says.
  */
@@ -94,6 +94,70 @@ struct tesolvagna_slot tesolvagna_decide(const struct tesolvagna_link *links, si
  */
 uint8_t tesolvagna_channel(uint64_t asn, uint16_t offset);
 
+/*
+ * The neighbour table. A table is 162 numbers that the caller lends:
+ *
+ *   numbers[5*i + 0]   place i, 0 to 31: 1 in use, 0 free
+ *   numbers[5*i + 1]   its neighbour's identifier (0 is one too)
+ *   numbers[5*i + 2]   advertised rank, at most 65535
+ *   numbers[5*i + 3]   attempts, at most 255
+ *   numbers[5*i + 4]   acknowledged, at most the attempts
+ *   numbers[160]       1 a parent is held, 0 none
+ *   numbers[161]       the held parent's identifier, 0 where none is held
+ *
+ * A free place is all zero; 162 zeros are the empty table. Numbers that are no table (a mark over 1, a rank or a counter over
+ * 65535, an identifier where no parent is held) and tables that break a rule (attempts over 255, more acknowledged than
+ * attempts, a free place that is not all zero, an identifier twice among places in use, a held parent not among them) are
+ * refused with 8 by every call. A refusal changes none of the numbers. Each pointer is not null, aligned, and valid for what
+ * is declared.
+ */
+#define TESOLVAGNA_TABLE_NUMBERS 162
+
+/* Own rank after an evaluation: 65535 where there is no parent, and where it is refused. */
+struct tesolvagna_evaluated {
+    uint16_t number;
+    uint16_t rank;
+};
+
+/* The join metric of a rank, 0 where it is refused. */
+struct tesolvagna_metric {
+    uint8_t number;
+    uint8_t metric;
+};
+
+/* What a log of calls comes to. Where applies is 1, 641 * changes + last <= first + rises, and changes <= 101 if rises
+ * is 0. All are 0 but the number where the log is refused. */
+struct tesolvagna_counts {
+    uint64_t number;
+    uint64_t evaluations;
+    uint64_t changes;
+    uint64_t rises;
+    uint64_t first;
+    uint64_t last;
+    uint64_t applies;
+};
+
+/* The smallest whole number not below 256 * (3t - 2a) / a, and 0 where a is 0. */
+uint32_t tesolvagna_increment(uint16_t attempts, uint16_t acked);
+
+struct tesolvagna_metric tesolvagna_join_metric(uint16_t rank);
+
+uint8_t tesolvagna_advertise(uint64_t table[TESOLVAGNA_TABLE_NUMBERS], uint64_t id, uint16_t rank);
+uint8_t tesolvagna_report(uint64_t table[TESOLVAGNA_TABLE_NUMBERS], uint64_t id, uint16_t attempts, bool acked);
+uint8_t tesolvagna_forget(uint64_t table[TESOLVAGNA_TABLE_NUMBERS], uint64_t id);
+struct tesolvagna_evaluated tesolvagna_evaluate(uint64_t table[TESOLVAGNA_TABLE_NUMBERS]);
+
+/* Runs a log, one row for each call: kind 0 advertises the identifier with the value as rank, 1 reports the value as
+ * attempts, acknowledged where the flag is 1, 2 forgets the identifier, 3 evaluates. What a kind does not name is not looked
+ * at. The four lists are equally long, at most 65535; no kind is over 3 and no flag over 1: else 8. The table holds
+ * afterwards what the last call gave back. */
+struct tesolvagna_counts tesolvagna_replay(
+    uint64_t table[TESOLVAGNA_TABLE_NUMBERS],
+    const uint8_t *kinds, size_t kinds_len,
+    const uint64_t *ids, size_t ids_len,
+    const uint16_t *values, size_t values_len,
+    const uint8_t *flags, size_t flags_len);
+
 #ifdef __cplusplus
 }
 #endif
@@ -118,6 +182,10 @@ TESOLVAGNA_ASSERT(offsetof(struct tesolvagna_slot, number) == 0);
 TESOLVAGNA_ASSERT(offsetof(struct tesolvagna_slot, action) == 1);
 TESOLVAGNA_ASSERT(offsetof(struct tesolvagna_slot, channel) == 2);
 TESOLVAGNA_ASSERT(offsetof(struct tesolvagna_slot, place) == 8);
+
+TESOLVAGNA_ASSERT(sizeof(struct tesolvagna_evaluated) == 4);
+TESOLVAGNA_ASSERT(sizeof(struct tesolvagna_metric) == 2);
+TESOLVAGNA_ASSERT(sizeof(struct tesolvagna_counts) == 56);
 
 #undef TESOLVAGNA_ASSERT
 

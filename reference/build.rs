@@ -1,4 +1,4 @@
-//! Links the static library that is tested: `libffi.a` in the folder that TESOLVAGNA_LIB names (a relative one counts
+//! Links the static library that is tested: `libtesolvagna.a` in the folder that TESOLVAGNA_LIB names (a relative one counts
 //! from this package's folder), else in `../target/staticlib`. The tests learn the archive's path from
 //! TESOLVAGNA_ARCHIVE, so it is chosen here only.
 
@@ -12,7 +12,7 @@ fn main() {
 
     let package = PathBuf::from(env::var_os("CARGO_MANIFEST_DIR").expect("cargo sets CARGO_MANIFEST_DIR"));
     let folder = package.join(env::var_os("TESOLVAGNA_LIB").unwrap_or("../target/staticlib".into()));
-    let archive = folder.join("libffi.a");
+    let archive = folder.join("libtesolvagna.a");
     println!("cargo::rerun-if-changed={}", archive.display());
 
     let Ok(archive) = archive.canonicalize() else {
@@ -21,6 +21,6 @@ fn main() {
     };
     let folder = archive.parent().expect("a file stands in a folder");
     println!("cargo::rustc-link-search=native={}", folder.display());
-    println!("cargo::rustc-link-lib=static=ffi");
+    println!("cargo::rustc-link-lib=static=tesolvagna");
     println!("cargo::rustc-env=TESOLVAGNA_ARCHIVE={}", archive.display());
 }

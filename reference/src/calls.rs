@@ -1,4 +1,4 @@
-//! Random tables and lists of calls for the neighbour table's tests, with lists built to come near the bound on changes.
+//! Random tables and lists of calls for the neighbour table's tests; some lists come near the bound on changes.
 
 use crate::metric::increment;
 use crate::random::Random;

@@ -1,5 +1,8 @@
 // Runs worked values through the library and prints one line for each; the file `stdout` beside src/ has what they must be.
 use beacon::Link;
+use metric::Place;
+use neighbours::Parent;
+use neighbours::Table;
 
 fn put(name: &[u8], n: u64) {
     io::write_all(1, name);
@@ -108,8 +111,42 @@ fn limits() {
     slot(minimal(), 1, 11, 0, 1099511627776, true);
 }
 
+// A tag at some rank: its join metric, and its child's own rank where 75 of 100 frames to it were acknowledged.
+fn hop(rank: u16) -> u16 {
+    let metric = metric::join_metric(rank);
+    put(b"rank ", rank as u64);
+    put(b" join metric number ", metric.number as u64);
+    put(b" metric ", metric.metric as u64);
+    let mut places = [metric::blank(); 32];
+    places[0] = Place {
+        id: 1,
+        rank,
+        attempts: 100,
+        acked: 75,
+        used: true,
+    };
+    let evaluated = neighbours::evaluate(Table {
+        places,
+        parent: Parent::None,
+    });
+    put(b" child's own rank ", evaluated.rank as u64);
+    io::write_all(1, b"\n");
+    evaluated.rank
+}
+
+// RFC 8180's example of five hops: each adds 512.
+fn hops() {
+    let first = hop(256);
+    let second = hop(first);
+    let third = hop(second);
+    let fourth = hop(third);
+    let fifth = hop(fourth);
+    hop(fifth);
+}
+
 fn main() {
     channels();
     slots();
     limits();
+    hops();
 }

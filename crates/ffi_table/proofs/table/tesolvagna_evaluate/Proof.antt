@@ -1,0 +1,38 @@
+-- `ffi::table::tesolvagna_evaluate` meets its contract. Assumes nothing.
+use Rattle.ffi_table.proofs.TableLaws.{tableWays}
+use borrow.Author.Needs.{needs}
+use Rattle.ffi_table.proofs.table.tesolvagna_evaluate.Statement.{statement}
+use Rattle.ffi_table.proofs.table.tesolvagna_evaluate.Tie as tie
+
+is-misfit-requires : tie.Need-is-misfit-requires
+is-misfit-requires c κs = search needs
+
+returns : tie.Need-returns
+returns c = search (needs, tableWays)
+
+read-requires : tie.Need-read-requires
+read-requires c κs = search needs
+
+evaluate-requires : tie.Need-evaluate-requires
+evaluate-requires c κs = search needs
+
+store-requires : tie.Need-store-requires
+store-requires c κs = search needs
+
+wide-requires : tie.Need-wide-requires
+wide-requires c κs = search needs
+
+returns-2 : tie.Need-returns-2
+returns-2 c = search (needs, tableWays)
+
+pub tesolvagna-evaluate-spec : {M : Type 1} → statement M
+tesolvagna-evaluate-spec =
+    tie.close
+    (tie.spec
+    is-misfit-requires
+    returns
+    read-requires
+    evaluate-requires
+    store-requires
+    wide-requires
+    returns-2)

@@ -1,0 +1,28 @@
+-- `ffi::table::tesolvagna_forget` meets its contract. Assumes nothing.
+use Rattle.ffi_table.proofs.TableLaws.{tableWays}
+use borrow.Author.Needs.{needs}
+use Rattle.ffi_table.proofs.table.tesolvagna_forget.Statement.{statement}
+use Rattle.ffi_table.proofs.table.tesolvagna_forget.Tie as tie
+
+is-misfit-requires : tie.Need-is-misfit-requires
+is-misfit-requires c κs = search needs
+
+returns : tie.Need-returns
+returns c = search (needs, tableWays)
+
+read-requires : tie.Need-read-requires
+read-requires c κs = search needs
+
+forget-requires : tie.Need-forget-requires
+forget-requires c κs = search needs
+
+store-requires : tie.Need-store-requires
+store-requires c κs = search needs
+
+returns-2 : tie.Need-returns-2
+returns-2 c = search (needs, tableWays)
+
+pub tesolvagna-forget-spec : {M : Type 1} → statement M
+tesolvagna-forget-spec =
+    tie.close
+    (tie.spec is-misfit-requires returns read-requires forget-requires store-requires returns-2)

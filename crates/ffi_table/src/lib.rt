@@ -1,0 +1,2 @@
+// The neighbour table for C and Rust (include/tesolvagna.h).
+pub mod table;

@@ -1,0 +1,110 @@
+-- The table and its calls: which tables are refused, and what each call answers (docs/RULES.md, Neighbours).
+-- Assumes nothing.
+use Prim.Native.Nat.{ℕ, _-_}
+use mathlib.Core.Bool.{Bool, true, false, not, _||_}
+use mathlib.Core.List.{List}
+use lib.ListN.{replicate}
+use lib.Dec.{eqb}
+use Rattle.octets.specs.Choice.{ifLt, ifEq, ifOn}
+use Rattle.metric.specs.declared.Place.{Place}
+use Rattle.metric.specs.Metric.{blank, eligible, pathCost}
+use Rattle.neighbours.specs.declared.Parent.{Parent}
+use Rattle.neighbours.specs.declared.Parent.the-variants.{None, Held}
+use Rattle.neighbours.specs.declared.Table.{Table}
+use Rattle.neighbours.specs.declared.Answer.{Answer}
+use Rattle.neighbours.specs.declared.Evaluation.{Evaluation}
+use Rattle.places.specs.Places.{best, changeFirst, firstOf, free, known, named, some, twice, unfit}
+use Rattle.neighbours.specs.Changes.{attempted, newcomer, withRank}
+
+-- ---- the table
+-- 32 free places and no parent
+abbrev pub emptyTable : Table
+emptyTable = record { places = replicate 32 blank; parent = None }
+
+abbrev pub withPlaces : Table → List Place → Table
+withPlaces t ps = record { places = ps; parent = t .parent }
+
+abbrev pub withParent : Table → Parent → Table
+withParent t q = record { places = t .places; parent = q }
+
+-- a held parent that is not among the places in use
+unfoldable pub parentMissing : Parent → List Place → Bool
+parentMissing None ps = false
+parentMissing (Held n) ps = not (known n ps)
+
+-- a table that breaks a rule: a place does, an identifier stands twice among places in use, or a held parent is not among them
+unfoldable pub broken : Table → Bool
+broken t = some unfit (t .places) || (twice (t .places) || parentMissing (t .parent) (t .places))
+
+-- ---- the calls, each first fault first: 8, 10, 11
+abbrev pub answer : ℕ → Table → Answer
+answer number t = record { number = number; table = t }
+
+-- sets the rank, or adds a neighbour in the lowest-numbered free place
+unfoldable pub advertised : Table → ℕ → ℕ → Answer
+advertised t n r =
+    ifOn (broken t) (answer 8 t)
+    (ifOn (known n (t .places)) (answer 0 (withPlaces t (changeFirst (named n) (withRank r) (t .places))))
+    (ifOn (some free (t .places)) (answer 0 (withPlaces t (changeFirst free (λ p. newcomer n r) (t .places))))
+    (answer 11 t)))
+
+-- 1 to 4 attempts, acknowledged or not
+unfoldable pub reported : Table → ℕ → ℕ → Bool → Answer
+reported t n k ok =
+    ifOn (broken t) (answer 8 t)
+    (ifLt k 1 (answer 8 t)
+    (ifLt 4 k (answer 8 t)
+    (ifOn (known n (t .places)) (answer 0 (withPlaces t (changeFirst (named n) (attempted k ok) (t .places))))
+    (answer 10 t))))
+
+-- the held parent once neighbour n is removed
+unfoldable pub without : ℕ → Parent → Parent
+without n None = None
+without n (Held m) = ifEq m n None (Held m)
+
+-- removes the neighbour; a held parent so removed becomes none
+unfoldable pub forgotten : Table → ℕ → Answer
+forgotten t n =
+    ifOn (broken t) (answer 8 t)
+    (ifOn (known n (t .places))
+    (answer 0 (record { places = changeFirst (named n) (λ p. blank) (t .places); parent = without n (t .parent) }))
+    (answer 10 t))
+
+-- ---- evaluation
+abbrev pub evaluation : ℕ → Table → ℕ → Evaluation
+evaluation number t rank = record { number = number; table = t; rank = rank }
+
+-- the held parent's place, and the blank place for none
+unfoldable pub heldPlace : Parent → List Place → Place
+heldPlace None ps = blank
+heldPlace (Held n) ps = firstOf (named n) ps
+
+abbrev pub held : Table → Place
+held t = heldPlace (t .parent) (t .places)
+
+-- the held parent's path cost
+abbrev pub heldCost : Table → ℕ
+heldCost t = pathCost (held t)
+
+-- whether two held parents are the same
+unfoldable pub same : Parent → Parent → Bool
+same None None = true
+same None (Held m) = false
+same (Held n) None = false
+same (Held n) (Held m) = eqb n m
+
+-- take a place's neighbour as parent; own rank is its cost
+abbrev pub taken : Table → Place → Evaluation
+taken t p = evaluation 0 (withParent t (Held (p .id))) (pathCost p)
+
+-- the choice between the held place h and the best place b: with no eligible neighbour none; if the held one is none or
+-- not eligible the best; otherwise change exactly when held cost minus best cost is greater than 640
+unfoldable pub chosen : Table → Place → Place → Evaluation
+chosen t h b =
+    ifOn (eligible b)
+    (ifOn (eligible h) (ifLt 640 (pathCost h - pathCost b) (taken t b) (evaluation 0 t (pathCost h))) (taken t b))
+    (evaluation 0 (withParent t None) 65535)
+
+-- sets the held parent and says the own rank
+unfoldable pub evaluated : Table → Evaluation
+evaluated t = ifOn (broken t) (evaluation 8 t 65535) (chosen t (held t) (best (t .places)))

@@ -1,0 +1,50 @@
+-- `places::limits::any_twice` meets its contract. The invariant: an identifier stands twice in what is left exactly when one does in the whole. Assumes nothing.
+use Prim.Native.Nat.{_-_, _≤_}
+use mathlib.Core.Path.{_≡_}
+use lib.ListN.{length, drop}
+use Rattle.places.specs.Places.{twice}
+use Rattle.places.proofs.PlaceLaws.{placeWays}
+use borrow.Author.Needs.{needs}
+use Rattle.places.proofs.limits.any_twice.Statement.{statement}
+use Rattle.places.proofs.limits.any_twice.Tie as tie
+
+abbrev Inv-loop : tie.InvT-loop
+Inv-loop ps i₀ i = (i ≤ 32) × (length ps ≡ 32) × (twice (drop i ps) ≡ twice ps)
+
+abbrev μ-loop : tie.MeasureT-loop
+μ-loop ps i₀ i = 32 - i
+
+loop-holds : tie.Need-loop-holds Inv-loop μ-loop
+loop-holds c = search (needs, placeWays)
+
+again-requires : tie.Need-again-requires Inv-loop μ-loop
+again-requires c κs = search needs
+
+returns : tie.Need-returns Inv-loop μ-loop
+returns c = search (needs, placeWays)
+
+add-i : tie.Need-add-i Inv-loop μ-loop
+add-i c = search needs
+
+loop-less : tie.Need-loop-less Inv-loop μ-loop
+loop-less c = search needs
+
+loop-again : tie.Need-loop-again Inv-loop μ-loop
+loop-again c = search (needs, placeWays)
+
+returns-2 : tie.Need-returns-2 Inv-loop μ-loop
+returns-2 c = search (needs, placeWays)
+
+pub any-twice-spec : {M : Type 1} → statement M
+any-twice-spec =
+    tie.close
+    (tie.spec
+    Inv-loop
+    μ-loop
+    loop-holds
+    again-requires
+    returns
+    add-i
+    loop-less
+    loop-again
+    returns-2)

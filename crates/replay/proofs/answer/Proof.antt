@@ -1,0 +1,46 @@
+-- `replay::answer` meets its contract. Assumes nothing.
+use Rattle.replay.proofs.ReplayLaws.{replayWays, run-ready}
+use borrow.Author.Needs.{needs}
+use Rattle.replay.proofs.answer.Statement.{statement}
+use Rattle.replay.proofs.answer.Tie as tie
+
+is-broken-requires : tie.Need-is-broken-requires
+is-broken-requires c κs = search needs
+
+refused-requires : tie.Need-refused-requires
+refused-requires c κs = search needs
+
+returns : tie.Need-returns
+returns c = search (needs, replayWays)
+
+is-unfit-requires : tie.Need-is-unfit-requires
+is-unfit-requires c κs = search needs
+
+refused-requires-2 : tie.Need-refused-requires-2
+refused-requires-2 c κs = search needs
+
+returns-2 : tie.Need-returns-2
+returns-2 c = search (needs, replayWays)
+
+run-requires : tie.Need-run-requires
+run-requires c κs = run-ready _ _ _ _ _ (c .before .is-unfit .ensures) (c .if2 .left)
+
+counts-requires : tie.Need-counts-requires
+counts-requires c κs = search needs
+
+returns-3 : tie.Need-returns-3
+returns-3 c = search (needs, replayWays)
+
+pub answer-spec : {M : Type 1} → statement M
+answer-spec =
+    tie.close
+    (tie.spec
+    is-broken-requires
+    refused-requires
+    returns
+    is-unfit-requires
+    refused-requires-2
+    returns-2
+    run-requires
+    counts-requires
+    returns-3)

@@ -1,0 +1,17 @@
+-- `replay::log::are_equally_long` meets its contract. Assumes nothing.
+use Rattle.replay.proofs.ReplayLaws.{replayWays}
+use borrow.Author.Needs.{needs}
+use Rattle.replay.proofs.log.are_equally_long.Statement.{statement}
+use Rattle.replay.proofs.log.are_equally_long.Tie as tie
+
+returns : tie.Need-returns
+returns c = search (needs, replayWays)
+
+returns-2 : tie.Need-returns-2
+returns-2 c = search (needs, replayWays)
+
+returns-3 : tie.Need-returns-3
+returns-3 c = search (needs, replayWays)
+
+pub are-equally-long-spec : {M : Type 1} → statement M
+are-equally-long-spec = tie.close (tie.spec returns returns-2 returns-3)

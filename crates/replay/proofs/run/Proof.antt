@@ -1,0 +1,76 @@
+-- `replay::run` meets its contract. The invariant: what is counted is what the rows passed come to, and each count has room for the rows left. Assumes nothing.
+use Prim.Native.Nat.{_-_, _*_, _^_, _≤_}
+use lib.ListN.{length}
+use Rattle.replay.specs.Log.{log}
+use Rattle.replay.proofs.ReplayLaws.{Counted}
+use native.Mathlib.Omega.{arith}
+use Rattle.replay.proofs.ReplayLaws.{counted-next}
+use Rattle.replay.proofs.ReplayLaws.{replayWays}
+use borrow.Author.Needs.{needs}
+use Rattle.replay.proofs.run.Statement.{statement}
+use Rattle.replay.proofs.run.Tie as tie
+
+abbrev Inv-loop : tie.InvT-loop
+Inv-loop kinds ids values flags s₀ i₀ s i = (i ≤ length kinds) × Counted (log kinds ids values flags) i s₀ s × (s .evaluations ≤ i) × (s .changes ≤ i) × (s .rises ≤ i * 2 ^ 30)
+
+abbrev μ-loop : tie.MeasureT-loop
+μ-loop kinds ids values flags s₀ i₀ s i = length kinds - i
+
+start-requires : tie.Need-start-requires Inv-loop μ-loop
+start-requires c κs = search needs
+
+loop-holds : tie.Need-loop-holds Inv-loop μ-loop
+loop-holds c = search (needs, replayWays)
+
+shared-slice-read-advance : tie.Need-shared-slice-read-advance Inv-loop μ-loop
+shared-slice-read-advance c = search (needs, replayWays)
+
+mul-advance : tie.Need-mul-advance Inv-loop μ-loop
+mul-advance c = search needs
+
+shared-slice-read-advance-2 : tie.Need-shared-slice-read-advance-2 Inv-loop μ-loop
+shared-slice-read-advance-2 c = search (needs, replayWays)
+
+mul-advance-2 : tie.Need-mul-advance-2 Inv-loop μ-loop
+mul-advance-2 c = search needs
+
+shared-slice-read-advance-3 : tie.Need-shared-slice-read-advance-3 Inv-loop μ-loop
+shared-slice-read-advance-3 c = search (needs, replayWays)
+
+shared-slice-read-advance-4 : tie.Need-shared-slice-read-advance-4 Inv-loop μ-loop
+shared-slice-read-advance-4 c = search (needs, replayWays)
+
+advance-requires : tie.Need-advance-requires Inv-loop μ-loop
+advance-requires c κs = search needs
+
+add-i : tie.Need-add-i Inv-loop μ-loop
+add-i c = search needs
+
+loop-less : tie.Need-loop-less Inv-loop μ-loop
+loop-less c = search needs
+
+loop-again : tie.Need-loop-again Inv-loop μ-loop
+loop-again c = (omega arith, search (needs, counted-next), omega arith, omega arith, omega arith)
+
+returns : tie.Need-returns Inv-loop μ-loop
+returns c = search (needs, replayWays)
+
+pub run-spec : {M : Type 1} → statement M
+run-spec =
+    tie.close
+    (tie.spec
+    Inv-loop
+    μ-loop
+    start-requires
+    loop-holds
+    shared-slice-read-advance
+    mul-advance
+    shared-slice-read-advance-2
+    mul-advance-2
+    shared-slice-read-advance-3
+    shared-slice-read-advance-4
+    advance-requires
+    add-i
+    loop-less
+    loop-again
+    returns)

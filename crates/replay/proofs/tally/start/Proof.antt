@@ -1,0 +1,14 @@
+-- `replay::tally::start` meets its contract. Assumes nothing.
+use Rattle.replay.proofs.ReplayLaws.{replayWays}
+use borrow.Author.Needs.{needs}
+use Rattle.replay.proofs.tally.start.Statement.{statement}
+use Rattle.replay.proofs.tally.start.Tie as tie
+
+none-requires : tie.Need-none-requires
+none-requires c κs = search needs
+
+returns : tie.Need-returns
+returns c = search (needs, replayWays)
+
+pub start-spec : {M : Type 1} → statement M
+start-spec = tie.close (tie.spec none-requires returns)

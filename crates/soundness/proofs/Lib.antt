@@ -1,0 +1,4 @@
+pub mod Best
+pub mod Places
+pub mod Kept
+pub mod Chosen

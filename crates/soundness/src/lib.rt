@@ -1,0 +1,13 @@
+// Theorems about the calls of the neighbour table (specs/Soundness.antt).
+ghost use Rattle.soundness.specs.Soundness.{BestComesFirst, BestIsAPlace, CallsKeepTables, ChangesGain641, EvaluateKeepsPlaces, ForgetMakesRoom, OwnRank};
+
+// Cites each theorem, so that the gate fails if the proof of one goes.
+pub fn theorems()
+    ensures calls_keep_tables { λ r. ⌜ CallsKeepTables ⌝ }
+    ensures best_comes_first { λ r. ⌜ BestComesFirst ⌝ }
+    ensures best_is_a_place { λ r. ⌜ BestIsAPlace ⌝ }
+    ensures evaluate_keeps_places { λ r. ⌜ EvaluateKeepsPlaces ⌝ }
+    ensures changes_gain_641 { λ r. ⌜ ChangesGain641 ⌝ }
+    ensures forget_makes_room { λ r. ⌜ ForgetMakesRoom ⌝ }
+    ensures own_rank { λ r. ⌜ OwnRank ⌝ }
+{}
