@@ -126,7 +126,8 @@ struct tesolvagna_metric {
 };
 
 /* What a log of calls comes to. Where applies is 1, 641 * changes + last <= first + rises, and changes <= 101 if rises
- * is 0. All are 0 but the number where the log is refused. */
+ * is 0. A held parent's cost is 0 where none is held, and its rank alone where nothing was acknowledged; first and last
+ * are 0 without an evaluation. All are 0 but the number where the log is refused. */
 struct tesolvagna_counts {
     uint64_t number;
     uint64_t evaluations;
@@ -137,7 +138,7 @@ struct tesolvagna_counts {
     uint64_t applies;
 };
 
-/* The smallest whole number not below 256 * (3t - 2a) / a, and 0 where a is 0. */
+/* The smallest whole number not below 256 * (3t - 2a) / a, and 0 where a is 0 or 2a is over 3t. */
 uint32_t tesolvagna_increment(uint16_t attempts, uint16_t acked);
 
 struct tesolvagna_metric tesolvagna_join_metric(uint16_t rank);
@@ -157,6 +158,98 @@ struct tesolvagna_counts tesolvagna_replay(
     const uint64_t *ids, size_t ids_len,
     const uint16_t *values, size_t values_len,
     const uint8_t *flags, size_t flags_len);
+/* Places of a record's numbers. A number that the beacon does not say is 0. */
+enum tesolvagna_record {
+    /* 1 if there is a sequence number. */
+    TESOLVAGNA_SEQUENCE_PRESENT = 0,
+    TESOLVAGNA_SEQUENCE = 1,
+    TESOLVAGNA_PAN_ID = 2,
+    /* 0 if the source address is short, 1 if it is extended. */
+    TESOLVAGNA_SOURCE_KIND = 3,
+    TESOLVAGNA_SOURCE = 4,
+    TESOLVAGNA_ASN = 5,
+    TESOLVAGNA_JOIN_METRIC = 6,
+    TESOLVAGNA_TEMPLATE_ID = 7,
+    /* 1 if the template ID comes with timings. */
+    TESOLVAGNA_TIMINGS_PRESENT = 8,
+    TESOLVAGNA_HOPPING_ID = 9,
+    TESOLVAGNA_SLOTFRAME_HANDLE = 10,
+    TESOLVAGNA_SLOTFRAME_SIZE = 11,
+    TESOLVAGNA_LINK_COUNT = 12,
+    /* 1 if there is joining information; what follows is part of it. */
+    TESOLVAGNA_JOINING_PRESENT = 13,
+    /* The R flag. */
+    TESOLVAGNA_ROUTER = 14,
+    /* The P flag: 1 if there is a join proxy's address. */
+    TESOLVAGNA_PROXY_PRESENT = 15,
+    TESOLVAGNA_PROXY_PRIORITY = 16,
+    TESOLVAGNA_RANK_PRIORITY = 17,
+    TESOLVAGNA_PAN_PRIORITY = 18,
+    /* As a number, most significant byte first. */
+    TESOLVAGNA_PROXY_ADDRESS = 19,
+    TESOLVAGNA_NETWORK_ID_LENGTH = 20
+};
+
+/* The lengths of the arrays that hold a record: numbers, timings, three numbers for each link, network ID. */
+enum tesolvagna_record_length {
+    TESOLVAGNA_NUMBERS = 21,
+    TESOLVAGNA_TIMINGS = 12,
+    TESOLVAGNA_LINK_NUMBERS = 48,
+    TESOLVAGNA_NETWORK_ID_BYTES = 16
+};
+
+/*
+ * Reads an Enhanced Beacon as the radio hands it over, without MIC and FCS. Answers 0 and lays its record out, or
+ * answers the number of the first check that it fails and lays the blank record out, in which everything is 0.
+ *
+ * The checks are made in this order. Numbers are least significant byte first, except inside joining information.
+ *   1  The frame has more than 125 bytes.
+ *   2  It has fewer than 2 bytes.
+ *   3  In the frame control field the type is not 0 or the version is not 2.
+ *   4  The security bit is set.
+ *   5  The destination mode is not short, the source mode neither short nor extended, PAN ID compression or elements
+ *      present is 0. The pending, acknowledge request and reserved bits are ignored.
+ *   2  The sequence number (unless suppressed), PAN ID, destination or source is cut.
+ *   5  The destination is not 0xFFFF.
+ * Then the elements, in the order of their bytes. An element, or its two descriptor bytes, that runs past what encloses
+ * it is 2 before anything else is said of it; the frame encloses header elements and groups, a group its sub-elements.
+ *   Header elements (bits 0 to 6 length, 7 to 14 ID): a set bit 15 is 6. ID 0x7E ends the list, and payload elements
+ *   follow; ID 0x7F or the end of the frame ends it, and none follow; either ID with a length is 6. Others are skipped.
+ *   Payload elements (bits 0 to 10 length, 11 to 14 group): a clear bit 15 is 6. Group 15 ends the list, with a length
+ *   it is 6, and so does the end of the frame. Group 1 holds sub-elements. Group 5 starts with a subtype, without which
+ *   it is 6; subtype 2 is joining information. Other groups and subtypes are skipped.
+ *   Sub-elements, short (bit 15 clear: bits 0 to 7 length, 8 to 14 ID) or long (bit 15 set: bits 0 to 10 length, 11 to
+ *   14 ID). Four are known, others are skipped. Of each the checks are made in the order in which they stand here:
+ *     short 0x1A, synchronization: not 6 bytes is 6, a second one 7. ASN (5 bytes), join metric.
+ *     short 0x1C, timeslot: not 1, 25 or 27 bytes is 6, a second one 7, 1 byte that is not 0 is 8. Template ID, then
+ *       no timings or twelve of 2 bytes each, of which the last two have 3 in the form of 27 bytes.
+ *     long 0x9, channel hopping: no byte is 6, a second one 7, more than one byte 8. Hopping sequence ID.
+ *     short 0x1B, slotframe and link: under 5 bytes is 6; not 1 slotframe is 8; a length other than 5 and 5 for each
+ *       link is 6; a second one is 7; size 0, no link, more than 16 links or a timeslot not below the size is 8. Number
+ *       of slotframes, handle, size (2 bytes), number of links; of each link timeslot (2), channel offset (2), options.
+ *   Joining information: 1 bit R, 1 bit P, 3 bits ignored, 7 bits proxy priority, 12 bits rank priority, 8 bits PAN
+ *     priority, most significant first, then 8 bytes of address if P is set, then 0 to 16 bytes of network ID; another
+ *     length is 6, a second one 7.
+ *   7  One of the four sub-elements is missing.
+ *
+ * The record: `numbers` as named above; the twelve timings, 0 without; of each link timeslot, channel offset and
+ * options, 0 from the link count on; the network ID, 0 from its length on.
+ *
+ * `frame` is not null and valid for `length` bytes, also when `length` is 0; it is not written. The arrays are not null
+ * and aligned, and they are written whole. No two of the five overlap.
+ */
+uint8_t tesolvagna_read(const uint8_t *frame, size_t length, uint64_t (*numbers)[TESOLVAGNA_NUMBERS],
+                        uint32_t (*timings)[TESOLVAGNA_TIMINGS], uint16_t (*links)[TESOLVAGNA_LINK_NUMBERS],
+                        uint8_t (*network)[TESOLVAGNA_NETWORK_ID_BYTES]);
+
+/*
+ * The network ID as part of a frame: its length, and in `start` where it starts, counted from the frame's first byte.
+ * Both are 0 if `tesolvagna_read` refuses the frame, for whatever reason, if the frame has no joining information, and
+ * if its network ID has 0 bytes.
+ *
+ * `frame` is as for `tesolvagna_read`. `start` is not null, aligned and not part of the frame; it is always written.
+ */
+size_t tesolvagna_network_id(const uint8_t *frame, size_t length, size_t *start);
 
 #ifdef __cplusplus
 }

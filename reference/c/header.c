@@ -1,7 +1,10 @@
-/* Calls the library through its C header on two schedules; the exit status is the number of wrong answers. */
+/* Calls the library through its C header on two schedules and a neighbour table; the exit status is the number of wrong
+ * answers. */
 #include "tesolvagna.h"
 
+/* Until the header has the table's part itself. */
 #include <stdio.h>
+#include <string.h>
 
 static int wrong(const char *name, struct tesolvagna_slot slot, uint8_t number, uint8_t action, uint8_t channel,
                  size_t place)
@@ -11,6 +14,94 @@ static int wrong(const char *name, struct tesolvagna_slot slot, uint8_t number, 
     printf("%s: number %d, action %d, channel %d, place %zu\n", name, slot.number, slot.action, slot.channel,
            slot.place);
     return 1;
+}
+
+static int differs(const char *name, uint64_t found, uint64_t expected)
+{
+    if (found == expected)
+        return 0;
+    printf("%s: %llu, not %llu\n", name, (unsigned long long)found, (unsigned long long)expected);
+    return 1;
+}
+
+/* The layout of the table's answers that the library was built with. */
+static int layout(void)
+{
+    int failures = 0;
+
+    failures += differs("size of evaluated", sizeof(struct tesolvagna_evaluated), 4);
+    failures += differs("rank of evaluated", offsetof(struct tesolvagna_evaluated, rank), 2);
+    failures += differs("size of metric", sizeof(struct tesolvagna_metric), 2);
+    failures += differs("metric of metric", offsetof(struct tesolvagna_metric, metric), 1);
+    failures += differs("size of counts", sizeof(struct tesolvagna_counts), 56);
+    failures += differs("evaluations of counts", offsetof(struct tesolvagna_counts, evaluations), 8);
+    failures += differs("changes of counts", offsetof(struct tesolvagna_counts, changes), 16);
+    failures += differs("rises of counts", offsetof(struct tesolvagna_counts, rises), 24);
+    failures += differs("first of counts", offsetof(struct tesolvagna_counts, first), 32);
+    failures += differs("last of counts", offsetof(struct tesolvagna_counts, last), 40);
+    failures += differs("applies of counts", offsetof(struct tesolvagna_counts, applies), 48);
+    return failures;
+}
+
+/* Two neighbours, one of which takes over from the other: call by call, then as one log. */
+static int table(void)
+{
+    static const uint8_t kinds[] = {0, 1, 3, 0, 1, 0, 3, 0, 3, 2};
+    static const uint64_t ids[] = {UINT64_MAX, UINT64_MAX, 0, 0, 0, UINT64_MAX, 0, UINT64_MAX, 0, UINT64_MAX};
+    static const uint16_t values[] = {1000, 1, 0, 512, 1, 1152, 0, 1153, 0, 0};
+    static const uint8_t flags[] = {0, 1, 0, 0, 1, 0, 0, 0, 0, 0};
+    const size_t count = sizeof(kinds);
+    uint64_t stepped[TESOLVAGNA_TABLE_NUMBERS] = {0};
+    uint64_t replayed[TESOLVAGNA_TABLE_NUMBERS] = {0};
+    struct tesolvagna_evaluated evaluated;
+    struct tesolvagna_metric metric;
+    struct tesolvagna_counts counts;
+    int failures = 0;
+
+    failures += differs("increment", tesolvagna_increment(8, 7), 366);
+    metric = tesolvagna_join_metric(2816);
+    failures += differs("metric's number", metric.number, TESOLVAGNA_DONE);
+    failures += differs("metric", metric.metric, 10);
+    failures += differs("metric of 255", tesolvagna_join_metric(255).number, TESOLVAGNA_OUTSIDE_LIMITS);
+
+    failures += differs("advertise", tesolvagna_advertise(stepped, UINT64_MAX, 1000), TESOLVAGNA_DONE);
+    failures += differs("report", tesolvagna_report(stepped, UINT64_MAX, 1, true), TESOLVAGNA_DONE);
+    evaluated = tesolvagna_evaluate(stepped);
+    failures += differs("first evaluation", evaluated.number, TESOLVAGNA_DONE);
+    failures += differs("first own rank", evaluated.rank, 1256);
+    failures += differs("other advertises", tesolvagna_advertise(stepped, 0, 512), TESOLVAGNA_DONE);
+    failures += differs("report of it", tesolvagna_report(stepped, 0, 1, true), TESOLVAGNA_DONE);
+    failures += differs("rise to a gain of 640", tesolvagna_advertise(stepped, UINT64_MAX, 1152), TESOLVAGNA_DONE);
+    failures += differs("kept", tesolvagna_evaluate(stepped).rank, 1408);
+    failures += differs("rise to a gain of 641", tesolvagna_advertise(stepped, UINT64_MAX, 1153), TESOLVAGNA_DONE);
+    failures += differs("changed", tesolvagna_evaluate(stepped).rank, 768);
+    failures += differs("forget", tesolvagna_forget(stepped, UINT64_MAX), TESOLVAGNA_DONE);
+    failures += differs("forget again", tesolvagna_forget(stepped, UINT64_MAX), TESOLVAGNA_UNKNOWN_NEIGHBOUR);
+    failures += differs("5 attempts", tesolvagna_report(stepped, 0, 5, true), TESOLVAGNA_OUTSIDE_LIMITS);
+    failures += differs("place 0", stepped[0], 0);
+    failures += differs("place 1", stepped[5], 1);
+    failures += differs("its rank", stepped[7], 512);
+    failures += differs("parent's mark", stepped[160], 1);
+    failures += differs("parent", stepped[161], 0);
+
+    counts = tesolvagna_replay(replayed, kinds, count, ids, count, values, count, flags, count);
+    failures += differs("replay", counts.number, TESOLVAGNA_DONE);
+    failures += differs("evaluations", counts.evaluations, 3);
+    failures += differs("changes", counts.changes, 2);
+    failures += differs("rises", counts.rises, 153);
+    failures += differs("last", counts.last, 768);
+    /* The first evaluation finds no parent. */
+    failures += differs("applies", counts.applies, 0);
+    failures += differs("same table", (uint64_t)memcmp(stepped, replayed, sizeof(stepped)), 0);
+    counts = tesolvagna_replay(replayed, kinds, count, ids, count, values, count - 1, flags, count);
+    failures += differs("a value less", counts.number, TESOLVAGNA_OUTSIDE_LIMITS);
+
+    stepped[160] = 2;
+    evaluated = tesolvagna_evaluate(stepped);
+    failures += differs("no table", evaluated.number, TESOLVAGNA_OUTSIDE_LIMITS);
+    failures += differs("own rank of no table", evaluated.rank, 65535);
+    failures += differs("mark kept", stepped[160], 2);
+    return failures;
 }
 
 int main(void)
@@ -54,5 +145,7 @@ int main(void)
         printf("channel of ASN 2^40 - 1\n");
         failures += 1;
     }
+    failures += layout();
+    failures += table();
     return failures;
 }

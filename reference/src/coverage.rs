@@ -1,6 +1,9 @@
 //! Counts of what random cases reached, so that a test fails when its cases miss something.
 
 use crate::calls::CallList;
+use crate::frame::{Address, Beacon, Check, LONGEST_FRAME, LONGEST_NETWORK_ID};
+use crate::frames::Kind;
+use crate::slot::MOST_LINKS;
 use crate::stability::Run;
 use crate::table::{Call, Place, Table};
 use std::collections::BTreeMap;
@@ -21,13 +24,14 @@ impl Counts {
     }
 
     /// Prints the counts; panics unless exactly these names were met, each at least `least` times.
-    pub fn expect(&self, title: &str, least: usize, names: &[&str]) {
+    pub fn expect(&self, title: &str, least: usize, names: &[impl AsRef<str>]) {
+        let names: Vec<&str> = names.iter().map(AsRef::as_ref).collect();
         let count = |name: &str| self.0.get(name).copied().unwrap_or(0);
         println!("{title}");
-        for name in names {
+        for name in &names {
             println!("{:>8}  {name}", count(name));
         }
-        for name in names {
+        for name in &names {
             assert!(count(name) >= least, "{title}: met {} times, not {least}: {name}", count(name));
         }
         for name in self.0.keys() {
@@ -260,5 +264,79 @@ fn choice_name(table: &Table, after: &Table) -> &'static str {
         (_, _, Some(640)) => "parent kept, gain of exactly 640",
         (_, _, Some(0)) => "parent kept, no gain",
         (_, _, Some(_)) => "parent kept, gain below 640",
+    }
+}
+
+/// What frames that were read reached.
+#[derive(Clone, Debug, Default)]
+pub struct FrameCoverage {
+    kinds: Counts,
+    numbers: Counts,
+    checks: Counts,
+    records: Counts,
+}
+
+impl FrameCoverage {
+    /// Counts a frame and the reference's answer.
+    pub fn add(&mut self, kind: Kind, frame: &[u8], answer: &Result<Beacon, Check>) {
+        self.kinds.add(format!("{kind:?}"));
+        match answer {
+            Ok(beacon) => {
+                self.numbers.add("0");
+                self.add_record(frame, beacon);
+            }
+            Err(check) => {
+                self.numbers.add(check.number().to_string());
+                self.checks.add(format!("{check:?}"));
+            }
+        }
+    }
+
+    fn add_record(&mut self, frame: &[u8], beacon: &Beacon) {
+        let counts = &mut self.records;
+        counts.add_if(frame.len() == LONGEST_FRAME, "longest frame");
+        counts.add(if beacon.sequence.is_some() { "sequence number" } else { "no sequence number" });
+        counts.add(match beacon.source {
+            Address::Short(_) => "short source",
+            Address::Extended(_) => "extended source",
+        });
+        counts.add(match beacon.timings {
+            None => "no timings",
+            Some([.., eleventh, twelfth]) if eleventh.max(twelfth) < 1 << 16 => "timings of 2 bytes",
+            Some(_) => "timings over 2 bytes",
+        });
+        counts.add(format!("{} links", beacon.count));
+        let Some(joining) = &beacon.joining else {
+            counts.add("no joining information");
+            return;
+        };
+        counts.add(if joining.proxy.is_some() { "join proxy address" } else { "no join proxy address" });
+        counts.add(format!("network ID of {} bytes", joining.network_length));
+    }
+
+    /// Panics unless there was every kind of frame, and every number, check and form of the record was met at least
+    /// `least` times.
+    pub fn expect(&self, least: usize) {
+        self.kinds.expect("frames", 1, &Kind::ALL.map(|kind| format!("{kind:?}")));
+        self.numbers.expect("numbers", least, &[0, 1, 2, 3, 4, 5, 6, 7, 8].map(|number| number.to_string()));
+        let checks: Vec<String> = Check::ALL.iter().map(|check| format!("{check:?}")).collect();
+        self.checks.expect("checks", least, &checks);
+        let forms = [
+            "longest frame",
+            "sequence number",
+            "no sequence number",
+            "short source",
+            "extended source",
+            "no timings",
+            "timings of 2 bytes",
+            "timings over 2 bytes",
+            "no joining information",
+            "join proxy address",
+            "no join proxy address",
+        ];
+        let links = (1..=MOST_LINKS).map(|count| format!("{count} links"));
+        let networks = (0..=LONGEST_NETWORK_ID).map(|length| format!("network ID of {length} bytes"));
+        let records: Vec<String> = forms.map(String::from).into_iter().chain(links).chain(networks).collect();
+        self.records.expect("records read", least, &records);
     }
 }

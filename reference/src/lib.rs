@@ -1,12 +1,21 @@
 //! Independent reference for the library's rules, written from the rules alone and for plainness, not speed.
 //! The differential tests put the same questions to it and to the static library and compare the answers.
 
+pub mod beacons;
 pub mod calls;
 pub mod coverage;
+pub mod damage;
+pub mod flat;
+pub mod frame;
+pub mod frames;
+pub mod lent;
+#[cfg(feature = "library")]
 pub mod library;
 pub mod metric;
+pub mod parts;
 pub mod random;
 pub mod refusal;
 pub mod slot;
 pub mod stability;
 pub mod table;
+pub mod worked;

@@ -1,7 +1,13 @@
 //! The static library's C interface, as its header declares it, and safe calls of it.
 
+use crate::lent::{Log, Outcome, Reply};
+use crate::metric::JoinMetric;
+use crate::flat::{Flat, LINK_NUMBERS, NUMBERS};
+use crate::frame::{LONGEST_NETWORK_ID, TIMINGS};
 use crate::slot::{Link, Slot};
+use crate::table::{Call, Numbers, TABLE_NUMBERS};
 use std::mem::{align_of, offset_of, size_of};
+use std::ops::Range;
 
 // The header states the same sizes and offsets to the C compiler.
 const _: () = {
@@ -20,6 +26,23 @@ unsafe extern "C" {
 
     /// Reads no memory.
     pub safe fn tesolvagna_channel(asn: u64, offset: u16) -> u8;
+
+    /// # Safety
+    /// `frame` is not null and valid for reading `length` bytes. The arrays are not null, aligned and valid for
+    /// writing. No two of the five overlap.
+    pub unsafe fn tesolvagna_read(
+        frame: *const u8,
+        length: usize,
+        numbers: *mut [u64; NUMBERS],
+        timings: *mut [u32; TIMINGS],
+        links: *mut [u16; LINK_NUMBERS],
+        network: *mut [u8; LONGEST_NETWORK_ID],
+    ) -> u8;
+
+    /// # Safety
+    /// `frame` is not null and valid for reading `length` bytes; `start` is not null, aligned and valid for writing,
+    /// and not part of the frame.
+    pub unsafe fn tesolvagna_network_id(frame: *const u8, length: usize, start: *mut usize) -> usize;
 }
 
 /// The library's slot decision.
@@ -31,4 +54,159 @@ pub fn decide(links: &[Link], size: u16, id: u8, asn: u64, waits: bool) -> Slot 
 /// The library's channel of a slot.
 pub fn channel(asn: u64, offset: u16) -> u8 {
     tesolvagna_channel(asn, offset)
+}
+
+/// An evaluation's refusal number and own rank.
+#[derive(Clone, Copy, Debug, PartialEq, Eq)]
+#[repr(C)]
+pub struct Evaluated {
+    pub number: u16,
+    pub rank: u16,
+}
+
+/// What a log comes to.
+#[derive(Clone, Copy, Debug, PartialEq, Eq)]
+#[repr(C)]
+pub struct Replayed {
+    pub number: u64,
+    pub evaluations: u64,
+    pub changes: u64,
+    pub rises: u64,
+    pub first: u64,
+    pub last: u64,
+    pub applies: u64,
+}
+
+// The C program that is tested with the header finds the same sizes and offsets.
+const _: () = {
+    assert!(TABLE_NUMBERS == 162);
+    assert!(size_of::<Evaluated>() == 4 && align_of::<Evaluated>() == 2);
+    assert!(offset_of!(Evaluated, number) == 0 && offset_of!(Evaluated, rank) == 2);
+    assert!(size_of::<JoinMetric>() == 2 && align_of::<JoinMetric>() == 1);
+    assert!(offset_of!(JoinMetric, number) == 0 && offset_of!(JoinMetric, metric) == 1);
+    assert!(size_of::<Replayed>() == 56 && align_of::<Replayed>() == 8);
+    assert!(offset_of!(Replayed, number) == 0 && offset_of!(Replayed, evaluations) == 8);
+    assert!(offset_of!(Replayed, changes) == 16 && offset_of!(Replayed, rises) == 24);
+    assert!(offset_of!(Replayed, first) == 32 && offset_of!(Replayed, last) == 40);
+    assert!(offset_of!(Replayed, applies) == 48);
+};
+
+// A table is lent as a reference to its numbers, which is all that those calls ask of a pointer.
+unsafe extern "C" {
+    /// Reads no memory.
+    pub safe fn tesolvagna_increment(attempts: u16, acked: u16) -> u32;
+
+    /// Reads no memory.
+    pub safe fn tesolvagna_join_metric(rank: u16) -> JoinMetric;
+
+    pub safe fn tesolvagna_advertise(table: &mut Numbers, id: u64, rank: u16) -> u8;
+
+    pub safe fn tesolvagna_report(table: &mut Numbers, id: u64, attempts: u16, acked: bool) -> u8;
+
+    pub safe fn tesolvagna_forget(table: &mut Numbers, id: u64) -> u8;
+
+    pub safe fn tesolvagna_evaluate(table: &mut Numbers) -> Evaluated;
+
+    /// # Safety
+    /// Each list's pointer is aligned, not null and valid for reading as many entries as its length says.
+    pub unsafe fn tesolvagna_replay(
+        table: &mut Numbers,
+        kinds: *const u8,
+        kinds_len: usize,
+        ids: *const u64,
+        ids_len: usize,
+        values: *const u16,
+        values_len: usize,
+        flags: *const u8,
+        flags_len: usize,
+    ) -> Replayed;
+}
+
+/// The library's increment; 0 when nothing was acknowledged.
+pub fn increment(attempts: u16, acknowledged: u16) -> u32 {
+    tesolvagna_increment(attempts, acknowledged)
+}
+
+/// The library's join metric.
+pub fn join_metric(rank: u16) -> JoinMetric {
+    tesolvagna_join_metric(rank)
+}
+
+pub fn advertise(numbers: &mut Numbers, identifier: u64, rank: u16) -> u8 {
+    tesolvagna_advertise(numbers, identifier, rank)
+}
+
+pub fn report(numbers: &mut Numbers, identifier: u64, attempts: u16, acknowledged: bool) -> u8 {
+    tesolvagna_report(numbers, identifier, attempts, acknowledged)
+}
+
+pub fn forget(numbers: &mut Numbers, identifier: u64) -> u8 {
+    tesolvagna_forget(numbers, identifier)
+}
+
+pub fn evaluate(numbers: &mut Numbers) -> Evaluated {
+    tesolvagna_evaluate(numbers)
+}
+
+/// The library's answer to a call; attempts have 16 bits.
+pub fn call(numbers: &mut Numbers, call: &Call) -> Reply {
+    let other = |number: u8| Reply { number, own_rank: None };
+    match *call {
+        Call::Advertise { identifier, rank } => other(advertise(numbers, identifier, rank)),
+        Call::Report { identifier, attempts, acknowledged } => {
+            other(report(numbers, identifier, u16::try_from(attempts).expect("16 bits"), acknowledged))
+        }
+        Call::Forget { identifier } => other(forget(numbers, identifier)),
+        Call::Evaluate => {
+            let Evaluated { number, rank } = evaluate(numbers);
+            Reply { number: u8::try_from(number).expect("a refusal number"), own_rank: Some(rank) }
+        }
+    }
+}
+
+/// The library's replay; the lists of the log may differ in length.
+pub fn replay(numbers: &mut Numbers, log: &Log) -> Replayed {
+    // SAFETY: a list's pointer is aligned, not null and valid for its length, also when that is 0.
+    unsafe {
+        tesolvagna_replay(
+            numbers,
+            log.kinds.as_ptr(),
+            log.kinds.len(),
+            log.identifiers.as_ptr(),
+            log.identifiers.len(),
+            log.values.as_ptr(),
+            log.values.len(),
+            log.flags.as_ptr(),
+            log.flags.len(),
+        )
+    }
+}
+
+impl Replayed {
+    /// Whether this is what the reference says, in all that has a number there.
+    pub fn agrees(&self, outcome: &Outcome) -> bool {
+        let same = |number: u64, cost: Option<i128>| cost.is_none_or(|cost| cost == i128::from(number));
+        self.number == u64::from(outcome.number)
+            && self.evaluations == outcome.evaluations as u64
+            && self.changes == outcome.changes as u64
+            && self.applies == u64::from(outcome.applies)
+            && same(self.rises, outcome.rises)
+            && same(self.first, outcome.first)
+            && same(self.last, outcome.last)
+    }
+}
+
+/// The library's reading of a frame: lays the record out and gives the number.
+pub fn read(frame: &[u8], record: &mut Flat) -> u8 {
+    let Flat { numbers, timings, links, network } = record;
+    // SAFETY: a slice's pointer is not null and valid for its length; the arrays are borrowed, each on its own.
+    unsafe { tesolvagna_read(frame.as_ptr(), frame.len(), numbers, timings, links, network) }
+}
+
+/// Where the library finds the network ID in a frame.
+pub fn network_id(frame: &[u8]) -> Range<usize> {
+    let mut start = usize::MAX;
+    // SAFETY: a slice's pointer is not null and valid for its length; `start` is a variable of its own.
+    let length = unsafe { tesolvagna_network_id(frame.as_ptr(), frame.len(), &mut start) };
+    start..start + length
 }

@@ -28,8 +28,9 @@ pub fn eligible(rank: u16, attempts: u64, acknowledged: u64) -> bool {
         && cost(rank, attempts, acknowledged).is_some_and(|cost| cost <= LARGEST_COST)
 }
 
-/// The join metric's answer; a refused metric is 0.
+/// The join metric's answer; a refused metric is 0. Laid out as in C, so that the library can give it too.
 #[derive(Clone, Copy, Debug, PartialEq, Eq)]
+#[repr(C)]
 pub struct JoinMetric {
     pub number: u8,
     pub metric: u8,

@@ -3,7 +3,7 @@
 use crate::refusal::OUTSIDE_LIMITS;
 
 /// One link of the schedule. Laid out as in C, so that one list can be lent to the reference and to the library.
-#[derive(Clone, Copy, Debug, PartialEq, Eq)]
+#[derive(Clone, Copy, Debug, Default, PartialEq, Eq)]
 #[repr(C)]
 pub struct Link {
     pub timeslot: u16,

@@ -178,48 +178,53 @@ impl Table {
     }
 }
 
+/// How many numbers a place has when a table is laid out flat.
+pub const PLACE_NUMBERS: usize = 5;
+
 /// How many numbers a table has when it is laid out flat.
-pub const TABLE_NUMBERS: usize = 5 * PLACES + 2;
+pub const TABLE_NUMBERS: usize = PLACE_NUMBERS * PLACES + 2;
+
+/// A table laid out flat.
+pub type Numbers = [u64; TABLE_NUMBERS];
 
 impl Table {
-    /// The table as numbers: 32 each of marks (1 in use), identifiers, ranks, attempts and acknowledged; then the mark
-    /// of a held parent and its identifier, both 0 when there is none.
-    pub fn to_numbers(&self) -> [u64; TABLE_NUMBERS] {
+    /// The table as numbers: of each place its mark (1 in use), identifier, rank, attempts and acknowledged; then the
+    /// mark of a held parent and its identifier, both 0 when there is none.
+    pub fn to_numbers(&self) -> Numbers {
         let mut numbers = [0; TABLE_NUMBERS];
-        for (index, place) in self.places.iter().enumerate() {
-            let fields =
-                [u64::from(place.used), place.identifier, u64::from(place.rank), place.attempts, place.acknowledged];
-            for (field, number) in fields.into_iter().enumerate() {
-                numbers[field * PLACES + index] = number;
-            }
+        for (row, place) in numbers.chunks_exact_mut(PLACE_NUMBERS).zip(&self.places) {
+            row[0] = u64::from(place.used);
+            row[1] = place.identifier;
+            row[2] = u64::from(place.rank);
+            row[3] = place.attempts;
+            row[4] = place.acknowledged;
         }
         if let Some(held) = self.held {
-            numbers[5 * PLACES] = 1;
-            numbers[5 * PLACES + 1] = held;
+            numbers[TABLE_NUMBERS - 2] = 1;
+            numbers[TABLE_NUMBERS - 1] = held;
         }
         numbers
     }
 
     /// The table that these numbers lay out; none if they lay out no table (a mark over 1, a rank over 16 bits, an
-    /// identifier beside the mark of no parent).
-    pub fn from_numbers(numbers: &[u64; TABLE_NUMBERS]) -> Option<Table> {
+    /// identifier beside the mark of no parent). A counter over 16 bits needs no test: such a table is not sound.
+    pub fn from_numbers(numbers: &Numbers) -> Option<Table> {
         let mark = |number: u64| match number {
             0 => Some(false),
             1 => Some(true),
             _ => None,
         };
         let mut table = Table::default();
-        for (index, place) in table.places.iter_mut().enumerate() {
-            let field = |field: usize| numbers[field * PLACES + index];
+        for (row, place) in numbers.chunks_exact(PLACE_NUMBERS).zip(&mut table.places) {
             *place = Place {
-                used: mark(field(0))?,
-                identifier: field(1),
-                rank: u16::try_from(field(2)).ok()?,
-                attempts: field(3),
-                acknowledged: field(4),
+                used: mark(row[0])?,
+                identifier: row[1],
+                rank: u16::try_from(row[2]).ok()?,
+                attempts: row[3],
+                acknowledged: row[4],
             };
         }
-        table.held = match (mark(numbers[5 * PLACES])?, numbers[5 * PLACES + 1]) {
+        table.held = match (mark(numbers[TABLE_NUMBERS - 2])?, numbers[TABLE_NUMBERS - 1]) {
             (true, held) => Some(held),
             (false, 0) => None,
             (false, _) => return None,
@@ -406,11 +411,11 @@ mod tests {
     fn numbers_lay_out_a_table() {
         let given = Table { held: Some(u64::MAX), ..table(&[place(u64::MAX, 65535, 300, 7)], None) };
         let numbers = given.to_numbers();
-        assert_eq!((numbers[0], numbers[32], numbers[64], numbers[96], numbers[128]), (1, u64::MAX, 65535, 300, 7));
-        assert_eq!((numbers[160], numbers[161]), (1, u64::MAX));
+        assert_eq!(numbers[..6], [1, u64::MAX, 65535, 300, 7, 0]);
+        assert_eq!(numbers[160..], [1, u64::MAX]);
         assert_eq!(Table::from_numbers(&numbers), Some(given));
         assert_eq!(Table::from_numbers(&Table::default().to_numbers()), Some(Table::default()));
-        for (index, number) in [(31, 2), (95, 65536), (160, 2), (160, 0)] {
+        for (index, number) in [(155, 2), (157, 65536), (160, 2), (160, 0)] {
             let mut wrong = numbers;
             wrong[index] = number;
             assert_eq!(Table::from_numbers(&wrong), None, "number {index} is {number}");

@@ -24,19 +24,29 @@ fn include_folder() -> String {
     format!("{PACKAGE}/../include")
 }
 
-#[test]
-fn c_program_calls_the_library() {
-    let program = Path::new(env!("CARGO_TARGET_TMPDIR")).join("header");
+/// Compiles and runs one of the C programs, whose exit status is the number of its wrong answers.
+fn run_c_program(name: &str) {
+    let program = Path::new(env!("CARGO_TARGET_TMPDIR")).join(name);
     expect_success(
         Command::new("cc")
             .args(["-std=c99", "-Wall", "-Wextra", "-Werror", "-pedantic"])
             .args(["-I", &include_folder()])
-            .arg(format!("{PACKAGE}/c/header.c"))
+            .arg(format!("{PACKAGE}/c/{name}.c"))
             .arg(env!("TESOLVAGNA_ARCHIVE"))
             .arg("-o")
             .arg(&program),
     );
     expect_success(&mut Command::new(&program));
+}
+
+#[test]
+fn c_program_calls_the_library() {
+    run_c_program("header");
+}
+
+#[test]
+fn c_program_reads_frames() {
+    run_c_program("reading");
 }
 
 #[test]

@@ -1,3 +1,4 @@
 pub mod ChoiceLaws
 pub mod NumberLaws
 pub mod PutLaws
+pub mod CountedLaws

@@ -144,9 +144,76 @@ fn hops() {
     hop(fifth);
 }
 
+// The number of a frame and, of an accepted one, some of its record.
+fn frame(name: &[u8], s: &[u8]) {
+    io::write_all(1, name);
+    let answer = reader::read(s);
+    let beacon = answer.beacon;
+    put(b": number ", answer.number as u64);
+    put(b" asn ", beacon.synchronization.asn);
+    put(b" metric ", beacon.synchronization.metric as u64);
+    put(b" size ", beacon.slotframe.size as u64);
+    put(b" links ", beacon.slotframe.count as u64);
+    io::write_all(1, b"\n");
+}
+
+// A beacon of 38 bytes, laid out field by field in docs/RULES.md, and cuts of it.
+fn frames() {
+    let minimal: [u8; 38] = [
+        0x40,
+        0xAB,
+        0x34,
+        0x12,
+        0xFF,
+        0xFF,
+        0x07,
+        0x00,
+        0x00,
+        0x3F,
+        0x1A,
+        0x88,
+        0x06,
+        0x1A,
+        0x00,
+        0x01,
+        0x00,
+        0x00,
+        0x00,
+        0x02,
+        0x01,
+        0x1C,
+        0x00,
+        0x01,
+        0xC8,
+        0x00,
+        0x0A,
+        0x1B,
+        0x01,
+        0x00,
+        0x0B,
+        0x00,
+        0x01,
+        0x00,
+        0x00,
+        0x00,
+        0x00,
+        0x0F,
+    ];
+    frame(b"minimal", &minimal);
+    frame(b"minimal, last byte cut", &minimal[..37]);
+    frame(b"minimal, cut behind 0x7E", &minimal[..10]);
+    frame(b"minimal, cut behind the source", &minimal[..8]);
+    frame(b"minimal, source cut", &minimal[..7]);
+    frame(b"empty", &minimal[..0]);
+    let zeros = [0u8; 126];
+    frame(b"125 zeros", &zeros[..125]);
+    frame(b"126 zeros", &zeros);
+}
+
 fn main() {
     channels();
     slots();
     limits();
     hops();
+    frames();
 }

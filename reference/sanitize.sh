@@ -1,0 +1,36 @@
+#!/usr/bin/env bash
+# Looks for memory errors of the library's reader: every frame of the differential test is read from C under valgrind,
+# in a heap block of exactly its size (c/frames.c). An address sanitizer would not do: it sees only what it compiled.
+# Not part of the gate. Needs valgrind, cc, cargo and the static library, found as build.rs finds it.
+set -euo pipefail
+cd "$(dirname "$0")"
+
+folder=${TESOLVAGNA_LIB:-../target/staticlib}
+work=$(mktemp -d)
+trap 'rm -rf "$work"' EXIT
+
+fail() {
+    echo "sanitize: failed: $1"
+    exit 1
+}
+
+command -v valgrind >/dev/null || fail "no valgrind"
+[[ -f $folder/libffi.a ]] || fail "no static library at $folder/libffi.a"
+cc -std=c99 -g -O1 -Wall -Wextra -Werror -pedantic -I ../include c/frames.c "$folder/libffi.a" -o "$work/frames"
+cargo build --release --offline --locked --quiet --bin dump_frames
+
+dump() {
+    cargo run --release --offline --locked --quiet --bin dump_frames
+}
+
+# A wide zone around each block, and no leave for a load that is only partly inside.
+check() {
+    valgrind --quiet --error-exitcode=9 --redzone-size=1024 --partial-loads-ok=no "$work/frames" "$@"
+}
+
+# The set-up must find an error that is there. The writer is cut off when the reader ends.
+dump 2>/dev/null | check probe >"$work/probe" 2>&1 || true
+grep -q "Invalid read of size 1" "$work/probe" || fail "valgrind did not find a read behind a frame"
+
+dump | check | tee "$work/verdict" || fail "see above"
+echo "sanitize: passed: $(cat "$work/verdict"), no memory error"
