@@ -1,9 +1,9 @@
 //! The static library's C interface, as its header declares it, and safe calls of it.
 
-use crate::lent::{Log, Outcome, Reply};
-use crate::metric::JoinMetric;
 use crate::flat::{Flat, LINK_NUMBERS, NUMBERS};
 use crate::frame::{LONGEST_NETWORK_ID, TIMINGS};
+use crate::lent::{Log, Outcome, Reply};
+use crate::metric::JoinMetric;
 use crate::slot::{Link, Slot};
 use crate::table::{Call, Numbers, TABLE_NUMBERS};
 use std::mem::{align_of, offset_of, size_of};
