@@ -15,8 +15,8 @@ fail() {
 }
 
 command -v valgrind >/dev/null || fail "no valgrind"
-[[ -f $folder/libffi.a ]] || fail "no static library at $folder/libffi.a"
-cc -std=c99 -g -O1 -Wall -Wextra -Werror -pedantic -I ../include c/frames.c "$folder/libffi.a" -o "$work/frames"
+[[ -f $folder/libtesolvagna.a ]] || fail "no static library at $folder/libtesolvagna.a"
+cc -std=c99 -g -O1 -Wall -Wextra -Werror -pedantic -I ../include c/frames.c "$folder/libtesolvagna.a" -o "$work/frames"
 cargo build --release --offline --locked --quiet --bin dump_frames
 
 dump() {

@@ -2,7 +2,7 @@
 ghost use mathlib.Core.Path.{_≡_};
 ghost use lib.ListN.{length};
 ghost use Rattle.reader.specs.Read.{readFrame, networkPart, networkStart};
-ghost use Rattle.layout.specs.Layout.{numbersOf, linkNumbers};
+ghost use Rattle.layout.specs.Layout.{LaidOut};
 
 // Reads a frame into lent arrays, and gives its number.
 #[no_mangle]
@@ -14,10 +14,7 @@ pub extern "C" fn tesolvagna_read(
     network: &mut [u8; 16],
 ) -> u8
     ensures number { λ r. ⌜ r ≡ readFrame (now (s .entry)) .number ⌝ }
-    ensures numbers { λ _. ⌜ now (numbers .exit) ≡ numbersOf (readFrame (now (s .entry)) .beacon) ⌝ }
-    ensures timings { λ _. ⌜ now (timings .exit) ≡ readFrame (now (s .entry)) .beacon .timeslot .timings ⌝ }
-    ensures links { λ _. ⌜ now (links .exit) ≡ linkNumbers (readFrame (now (s .entry)) .beacon .slotframe .links) ⌝ }
-    ensures network { λ _. ⌜ now (network .exit) ≡ readFrame (now (s .entry)) .beacon .joining .network ⌝ }
+    ensures arrays { λ _. ⌜ LaidOut (readFrame (now (s .entry)) .beacon) (now (numbers .exit)) (now (timings .exit)) (now (links .exit)) (now (network .exit)) ⌝ }
 {
     layout::read_into(s, numbers, timings, links, network)
 }

@@ -1,1 +1,4 @@
+pub mod FixedLaws
 pub mod LayoutLaws
+pub mod ArrayLaws
+pub mod ReadIntoLaws

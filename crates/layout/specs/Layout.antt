@@ -1,12 +1,17 @@
 -- The record as numbers in their places, as the C header lists them. Assumes nothing.
 use Prim.Native.Nat.{ℕ}
+use mathlib.Core.Path.{_≡_}
 use mathlib.Core.Bool.{Bool, cond}
-use mathlib.Core.List.{List, [], _∷_}
+use mathlib.Core.List.{List, [], _∷_, _++_}
 use Rattle.beacon.specs.declared.SequenceNumber.{SequenceNumber}
 use Rattle.beacon.specs.declared.SequenceNumber.the-variants.{Absent, Number}
 use Rattle.beacon.specs.declared.Address.{Address}
 use Rattle.beacon.specs.declared.Address.the-variants.{Short, Extended}
+use Rattle.beacon.specs.declared.Synchronization.{Synchronization}
+use Rattle.beacon.specs.declared.TimeslotTemplate.{TimeslotTemplate}
 use Rattle.beacon.specs.declared.Link.{Link}
+use Rattle.beacon.specs.declared.Slotframe.{Slotframe}
+use Rattle.beacon.specs.declared.JoiningInformation.{JoiningInformation}
 use Rattle.beacon.specs.declared.Beacon.{Beacon}
 
 -- a sequence number: whether there is one, and which; 0 for none
@@ -31,33 +36,30 @@ sourceAddress (Extended n) = n
 abbrev pub bit : Bool → ℕ
 bit b = cond b 1 0
 
+-- what stands before the elements: 5 numbers
+unfoldable pub openingNumbers : SequenceNumber → ℕ → Address → List ℕ
+openingNumbers sequence pan source = sequencePresent sequence ∷ sequenceNumber sequence ∷ pan ∷ sourceKind source ∷ sourceAddress source ∷ []
+
+-- the four required elements: 8 numbers
+unfoldable pub elementNumbers : Synchronization → TimeslotTemplate → ℕ → Slotframe → List ℕ
+elementNumbers y t hopping f = y .asn ∷ y .metric ∷ t .id ∷ bit (t .timed) ∷ hopping ∷ f .handle ∷ f .size ∷ f .count ∷ []
+
+-- joining information: 8 numbers
+unfoldable pub joiningNumbers : JoiningInformation → List ℕ
+joiningNumbers j = bit (j .present) ∷ bit (j .router) ∷ bit (j .proxied) ∷ j .proxy ∷ j .rank ∷ j .pan ∷ j .address ∷ j .length ∷ []
+
 -- the 21 numbers
 unfoldable pub numbersOf : Beacon → List ℕ
-numbersOf b =
-    sequencePresent (b .sequence)
-    ∷ sequenceNumber (b .sequence)
-    ∷ b .pan
-    ∷ sourceKind (b .source)
-    ∷ sourceAddress (b .source)
-    ∷ b .synchronization .asn
-    ∷ b .synchronization .metric
-    ∷ b .timeslot .id
-    ∷ bit (b .timeslot .timed)
-    ∷ b .hopping
-    ∷ b .slotframe .handle
-    ∷ b .slotframe .size
-    ∷ b .slotframe .count
-    ∷ bit (b .joining .present)
-    ∷ bit (b .joining .router)
-    ∷ bit (b .joining .proxied)
-    ∷ b .joining .proxy
-    ∷ b .joining .rank
-    ∷ b .joining .pan
-    ∷ b .joining .address
-    ∷ b .joining .length
-    ∷ []
+numbersOf b = openingNumbers (b .sequence) (b .pan) (b .source) ++ (elementNumbers (b .synchronization) (b .timeslot) (b .hopping) (b .slotframe) ++ joiningNumbers (b .joining))
 
 -- three numbers for each link: timeslot, channel offset, options
 unfoldable pub linkNumbers : List Link → List ℕ
 linkNumbers [] = []
 linkNumbers (l ∷ ls) = l .timeslot ∷ l .offset ∷ l .options ∷ linkNumbers ls
+
+-- four arrays hold a record
+pub record LaidOut (b : Beacon) (numbers timings links network : List ℕ) : Type 0 where
+  pub numbered : numbers ≡ numbersOf b
+  pub timed : timings ≡ b .timeslot .timings
+  pub linked : links ≡ linkNumbers (b .slotframe .links)
+  pub named : network ≡ b .joining .network

@@ -24,7 +24,7 @@ unfolding answered ifEq
 kept zero a b = refl
 kept (suc n) a b = rw (eqb·suc-zero n)
 
-number-of : (s : List ℕ) → readFrame s .number ≡ examined s .number
+pub number-of : (s : List ℕ) → readFrame s .number ≡ examined s .number
 unfolding readFrame answered
 number-of s = kept (examined s .number) _ _
 

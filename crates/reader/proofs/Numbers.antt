@@ -30,11 +30,11 @@ use Rattle.reader.specs.Read.{headedWalk, elementsWalk, missing, numberO
 abbrev Small : ℕ → Type 0
 Small n = T (leb n 8 && not (eqb n 1))
 
-both-left : (a b : Bool) → T (a && b) → T a
+pub both-left : (a b : Bool) → T (a && b) → T a
 both-left true b t = tt
 both-left false b t = t
 
-both-right : (a b : Bool) → T (a && b) → T b
+pub both-right : (a b : Bool) → T (a && b) → T b
 both-right true b t = t
 both-right false b t = absurd t
 

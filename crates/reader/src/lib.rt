@@ -3,7 +3,8 @@ ghost use mathlib.Core.Path.{_≡_};
 ghost use Prim.Native.Nat.{_≤_};
 ghost use lib.ListN.{length};
 ghost use Rattle.reader.specs.Read.{headedWalk, elementsWalk, missing, numberOf, blankWalk, elementsPlace, examined, readFrame, partOf, networkPart, networkStart};
-ghost use Rattle.reader.specs.Claims.{NumbersTo8, OneIsTheLength};
+ghost use Rattle.reader.specs.Claims.{NumbersTo8, OneIsTheLength, AcceptedMayBeDecidedOn};
+ghost use Rattle.reader.specs.Inside.{AcceptedLiesInside};
 use beacon::Beacon;
 use beacon::refusal::DONE;
 use beacon::refusal::MISSING_OR_TWICE;
@@ -85,7 +86,8 @@ fn walk_number(w: Walk) -> u8
 
 // The number of a frame, and where its known elements are. A frame that is refused before its elements has none.
 pub fn examine(s: &[u8]) -> Examination
-    ensures { λ r. ⌜ r ≡ examined (now (s .entry)) ⌝ }
+    ensures answer { λ r. ⌜ r ≡ examined (now (s .entry)) ⌝ }
+    ensures inside { λ _. ⌜ AcceptedLiesInside ⌝ }
 {
     let fault = control::opening_fault(s);
     if fault != 0 {
@@ -130,6 +132,7 @@ pub fn read(s: &[u8]) -> ReadAnswer
     ensures answer { λ r. ⌜ r ≡ readFrame (now (s .entry)) ⌝ }
     ensures numbers { λ _. ⌜ NumbersTo8 ⌝ }
     ensures length { λ _. ⌜ OneIsTheLength ⌝ }
+    ensures accepted { λ _. ⌜ AcceptedMayBeDecidedOn ⌝ }
 {
     let found = examine(s);
     if found.number != 0 {

@@ -144,6 +144,10 @@ fn hops() {
     hop(fifth);
 }
 
+fn wide(n: u32) -> u64 {
+    n as u64
+}
+
 // The number of a frame and, of an accepted one, some of its record.
 fn frame(name: &[u8], s: &[u8]) {
     io::write_all(1, name);
@@ -154,51 +158,16 @@ fn frame(name: &[u8], s: &[u8]) {
     put(b" metric ", beacon.synchronization.metric as u64);
     put(b" size ", beacon.slotframe.size as u64);
     put(b" links ", beacon.slotframe.count as u64);
+    put(b" template ", beacon.timeslot.id as u64);
+    let timeslot = beacon.timeslot;
+    put(b" timeslot length ", wide(timeslot.timings[11]));
     io::write_all(1, b"\n");
 }
 
 // A beacon of 38 bytes, laid out field by field in docs/RULES.md, and cuts of it.
 fn frames() {
-    let minimal: [u8; 38] = [
-        0x40,
-        0xAB,
-        0x34,
-        0x12,
-        0xFF,
-        0xFF,
-        0x07,
-        0x00,
-        0x00,
-        0x3F,
-        0x1A,
-        0x88,
-        0x06,
-        0x1A,
-        0x00,
-        0x01,
-        0x00,
-        0x00,
-        0x00,
-        0x02,
-        0x01,
-        0x1C,
-        0x00,
-        0x01,
-        0xC8,
-        0x00,
-        0x0A,
-        0x1B,
-        0x01,
-        0x00,
-        0x0B,
-        0x00,
-        0x01,
-        0x00,
-        0x00,
-        0x00,
-        0x00,
-        0x0F,
-    ];
+    let minimal =
+        *b"\x40\xAB\x34\x12\xFF\xFF\x07\x00\x00\x3F\x1A\x88\x06\x1A\x00\x01\x00\x00\x00\x02\x01\x1C\x00\x01\xC8\x00\x0A\x1B\x01\x00\x0B\x00\x01\x00\x00\x00\x00\x0F";
     frame(b"minimal", &minimal);
     frame(b"minimal, last byte cut", &minimal[..37]);
     frame(b"minimal, cut behind 0x7E", &minimal[..10]);
@@ -210,10 +179,28 @@ fn frames() {
     frame(b"126 zeros", &zeros);
 }
 
+// RFC 8180, appendix A.1 and A.2, each behind the fields of the beacon above: the RFC shows the elements alone, breaks A.2 off after the
+// length of its last element, which is completed as in A.1, and prints it with A.1's group length.
+fn published() {
+    frame(
+        b"RFC 8180 A.1",
+        b"\x40\xAB\x34\x12\xFF\xFF\x07\x00\x00\x3F\x1A\x88\x06\x1A\x05\x04\x03\x02\x01\x00\x01\x1C\x00\x01\xC8\x00\x0A\x1B\x01\x00\x65\x00\x01\x00\x00\x00\x00\x0F",
+    );
+    frame(
+        b"RFC 8180 A.2 as printed",
+        b"\x40\xAB\x34\x12\xFF\xFF\x07\x00\x00\x3F\x1A\x88\x06\x1A\x05\x04\x03\x02\x01\x00\x19\x1C\x01\x8C\x0A\x80\x00\x6C\x0C\x90\x06\xB0\x04\xDC\x05\xE4\x0C\x58\x02\xC0\x00\x60\x09\xA0\x10\x98\x3A\x01\xC8\x00\x0A\x1B\x01\x00\x65\x00\x01\x00\x00\x00\x00\x0F",
+    );
+    frame(
+        b"RFC 8180 A.2, group of 50 bytes",
+        b"\x40\xAB\x34\x12\xFF\xFF\x07\x00\x00\x3F\x32\x88\x06\x1A\x05\x04\x03\x02\x01\x00\x19\x1C\x01\x8C\x0A\x80\x00\x6C\x0C\x90\x06\xB0\x04\xDC\x05\xE4\x0C\x58\x02\xC0\x00\x60\x09\xA0\x10\x98\x3A\x01\xC8\x00\x0A\x1B\x01\x00\x65\x00\x01\x00\x00\x00\x00\x0F",
+    );
+}
+
 fn main() {
     channels();
     slots();
     limits();
     hops();
     frames();
+    published();
 }

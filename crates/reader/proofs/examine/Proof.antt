@@ -1,4 +1,5 @@
 -- `reader::examine` meets its contract. Assumes nothing.
+use Rattle.reader.proofs.Accepted.{accepted-lies-inside}
 use Rattle.reader.proofs.ReadLaws.{reading}
 use borrow.Author.Needs.{needs}
 use Rattle.reader.proofs.examine.Statement.{statement}
@@ -11,7 +12,7 @@ blank-walk-requires : tie.Need-blank-walk-requires
 blank-walk-requires c κs = search needs
 
 returns : tie.Need-returns
-returns c = search (needs, reading)
+returns c = (search (needs, reading), accepted-lies-inside)
 
 elements-place-requires : tie.Need-elements-place-requires
 elements-place-requires c κs = search needs
@@ -23,7 +24,7 @@ walk-number-requires : tie.Need-walk-number-requires
 walk-number-requires c κs = search (needs, reading)
 
 returns-2 : tie.Need-returns-2
-returns-2 c = search (needs, reading)
+returns-2 c = (search (needs, reading), accepted-lies-inside)
 
 pub examine-spec : {M : Type 1} → statement M
 examine-spec =
