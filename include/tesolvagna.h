@@ -251,6 +251,43 @@ uint8_t tesolvagna_read(const uint8_t *frame, size_t length, uint64_t (*numbers)
  */
 size_t tesolvagna_network_id(const uint8_t *frame, size_t length, size_t *start);
 
+/*
+ * Writes a record's Enhanced Beacon at the start of a lent room. Answers 0, and the frame is the first `*length` bytes
+ * of the room, or answers the first of these that applies:
+ *   8  A number is outside its limits.
+ *   1  The frame would have more than 125 bytes.
+ *   9  The room is shorter than the frame; one of just its length is enough.
+ *
+ * The record is laid out as `tesolvagna_read` does it. Outside the limits are:
+ *   A number that does not fit its field: one over 1 that says what is present, the source's kind or the R flag; over
+ *     65535 the PAN ID, a short source, the slotframe size or the rank priority; over 255 a link's options, and any
+ *     other of `numbers` but an extended source, the ASN and the address.
+ *   An ASN over 2^40 - 1.
+ *   A template ID that comes without timings and is not 0; one of the first ten timings over 65535; one of the last two
+ *     over 2^24 - 1.
+ *   Slotframe size 0, no link, more than 16 links, a timeslot that is not below the size.
+ *   A proxy priority over 127, a rank priority over 4095, a network ID of more than 16 bytes.
+ *   Anything but 0 where nothing is used: a sequence number that is not present, timings that are not present, links
+ *     from the link count on, the address without the P flag, network ID bytes from its length on, all of joining
+ *     information that is not present.
+ * The record of a frame that was read is within the limits, and takes no more bytes than that frame had. The blank
+ * record is outside, with size 0 and no link.
+ *
+ * The frame: frame control with type 0, version 2, PAN ID compression and elements present, and no other flag than that
+ * of a suppressed sequence number; sequence number if present; PAN ID; destination 0xFFFF; source; header ID 0x7E; one
+ * group 1 of synchronization, timeslot, channel hopping, and slotframe and link; joining information, if present, as
+ * group 5 with subtype 2; no group 15. Timings take the form of 25 bytes if both of the last two fit in 2 bytes, else
+ * that of 27. `tesolvagna_read` answers 0 on it and lays the same record out.
+ *
+ * `room` is not null and valid for `room_length` bytes, also when that is 0; its bytes from `*length` on stay as they
+ * were, and so do all of them on a refusal. `length` is not null and aligned; it is always written, and 0 on a refusal.
+ * The arrays are not null and aligned; they are not written. Neither the room nor `length` overlaps another of the six.
+ */
+uint8_t tesolvagna_write(uint8_t *room, size_t room_length, const uint64_t (*numbers)[TESOLVAGNA_NUMBERS],
+                         const uint32_t (*timings)[TESOLVAGNA_TIMINGS],
+                         const uint16_t (*links)[TESOLVAGNA_LINK_NUMBERS],
+                         const uint8_t (*network)[TESOLVAGNA_NETWORK_ID_BYTES], size_t *length);
+
 #ifdef __cplusplus
 }
 #endif

@@ -55,7 +55,7 @@ pub fn random_beacon(random: &mut Random, longest: usize) -> Beacon {
 }
 
 /// A number from 0 to `largest`; both ends come often.
-fn random_number(random: &mut Random, largest: u64) -> u64 {
+pub fn random_number(random: &mut Random, largest: u64) -> u64 {
     match random.below(8) {
         0 => 0,
         1 => largest,

@@ -1,12 +1,15 @@
 //! Counts of what random cases reached, so that a test fails when its cases miss something.
 
 use crate::calls::CallList;
+use crate::flat::Flat;
 use crate::frame::{Address, Beacon, Check, LONGEST_FRAME, LONGEST_NETWORK_ID};
 use crate::frames::Kind;
+use crate::records::{self, Shape};
 use crate::slot::MOST_LINKS;
 use crate::stability::Run;
 use crate::table::{Call, Place, Table};
-use std::collections::BTreeMap;
+use crate::write::{frame_length, Limit, Record, Refusal};
+use std::collections::{BTreeMap, BTreeSet};
 
 /// How often each named thing was met.
 #[derive(Clone, Debug, Default)]
@@ -283,35 +286,13 @@ impl FrameCoverage {
         match answer {
             Ok(beacon) => {
                 self.numbers.add("0");
-                self.add_record(frame, beacon);
+                count_record(&mut self.records, frame.len(), beacon);
             }
             Err(check) => {
                 self.numbers.add(check.number().to_string());
                 self.checks.add(format!("{check:?}"));
             }
         }
-    }
-
-    fn add_record(&mut self, frame: &[u8], beacon: &Beacon) {
-        let counts = &mut self.records;
-        counts.add_if(frame.len() == LONGEST_FRAME, "longest frame");
-        counts.add(if beacon.sequence.is_some() { "sequence number" } else { "no sequence number" });
-        counts.add(match beacon.source {
-            Address::Short(_) => "short source",
-            Address::Extended(_) => "extended source",
-        });
-        counts.add(match beacon.timings {
-            None => "no timings",
-            Some([.., eleventh, twelfth]) if eleventh.max(twelfth) < 1 << 16 => "timings of 2 bytes",
-            Some(_) => "timings over 2 bytes",
-        });
-        counts.add(format!("{} links", beacon.count));
-        let Some(joining) = &beacon.joining else {
-            counts.add("no joining information");
-            return;
-        };
-        counts.add(if joining.proxy.is_some() { "join proxy address" } else { "no join proxy address" });
-        counts.add(format!("network ID of {} bytes", joining.network_length));
     }
 
     /// Panics unless there was every kind of frame, and every number, check and form of the record was met at least
@@ -321,22 +302,194 @@ impl FrameCoverage {
         self.numbers.expect("numbers", least, &[0, 1, 2, 3, 4, 5, 6, 7, 8].map(|number| number.to_string()));
         let checks: Vec<String> = Check::ALL.iter().map(|check| format!("{check:?}")).collect();
         self.checks.expect("checks", least, &checks);
-        let forms = [
-            "longest frame",
-            "sequence number",
-            "no sequence number",
-            "short source",
-            "extended source",
-            "no timings",
-            "timings of 2 bytes",
-            "timings over 2 bytes",
-            "no joining information",
-            "join proxy address",
-            "no join proxy address",
-        ];
-        let links = (1..=MOST_LINKS).map(|count| format!("{count} links"));
-        let networks = (0..=LONGEST_NETWORK_ID).map(|length| format!("network ID of {length} bytes"));
-        let records: Vec<String> = forms.map(String::from).into_iter().chain(links).chain(networks).collect();
-        self.records.expect("records read", least, &records);
+        self.records.expect("records read", least, &record_names());
+    }
+}
+
+/// Counts a record and its frame's length.
+fn count_record(counts: &mut Counts, length: usize, beacon: &Beacon) {
+    counts.add_if(length == LONGEST_FRAME, "longest frame");
+    counts.add(if beacon.sequence.is_some() { "sequence number" } else { "no sequence number" });
+    counts.add(match beacon.source {
+        Address::Short(_) => "short source",
+        Address::Extended(_) => "extended source",
+    });
+    counts.add(match beacon.timings {
+        None => "no timings",
+        Some([.., eleventh, twelfth]) if eleventh.max(twelfth) < 1 << 16 => "timings of 2 bytes",
+        Some(_) => "timings over 2 bytes",
+    });
+    counts.add(format!("{} links", beacon.count));
+    let Some(joining) = &beacon.joining else {
+        counts.add("no joining information");
+        return;
+    };
+    counts.add(if joining.proxy.is_some() { "join proxy address" } else { "no join proxy address" });
+    counts.add(format!("network ID of {} bytes", joining.network_length));
+}
+
+/// The names that it gives.
+fn record_names() -> Vec<String> {
+    let forms = [
+        "longest frame",
+        "sequence number",
+        "no sequence number",
+        "short source",
+        "extended source",
+        "no timings",
+        "timings of 2 bytes",
+        "timings over 2 bytes",
+        "no joining information",
+        "join proxy address",
+        "no join proxy address",
+    ];
+    let links = (1..=MOST_LINKS).map(|count| format!("{count} links"));
+    let networks = (0..=LONGEST_NETWORK_ID).map(|length| format!("network ID of {length} bytes"));
+    forms.map(String::from).into_iter().chain(links).chain(networks).collect()
+}
+
+/// What records that were to be written reached.
+#[derive(Clone, Debug, Default)]
+pub struct WriteCoverage {
+    kinds: Counts,
+    numbers: Counts,
+    refusals: Counts,
+    alone: Counts,
+    together: BTreeMap<(Limit, Limit), usize>,
+    orders: Counts,
+    rooms: Counts,
+    records: Counts,
+    lengths: BTreeMap<usize, usize>,
+}
+
+impl WriteCoverage {
+    /// Limits of which no record breaks both.
+    const NOT_TOGETHER: [(Limit, Limit); 4] = [
+        (Limit::NoLinks, Limit::TooManyLinks),
+        (Limit::NoLinks, Limit::LinkTimeslot),
+        (Limit::TooManyLinks, Limit::UnusedLinks),
+        (Limit::NetworkLength, Limit::UnusedNetwork),
+    ];
+
+    /// Counts a record, the length of its room and the reference's answer.
+    pub fn add(&mut self, kind: records::Kind, flat: &Flat, room: usize, answer: &Result<usize, Refusal>) {
+        self.kinds.add(format!("{kind:?}"));
+        self.numbers.add(answer.map_or_else(Refusal::number, |_| 0).to_string());
+        if let Err(refusal) = answer {
+            self.refusals.add(format!("{refusal:?}"));
+        }
+        if let Ok(record) = Record::from_flat(flat) {
+            self.add_record(&record, room, answer);
+        }
+    }
+
+    fn add_record(&mut self, record: &Record, room: usize, answer: &Result<usize, Refusal>) {
+        let length = frame_length(record);
+        let (too_long, no_room) = (length > LONGEST_FRAME, room < length);
+        match answer {
+            Err(Refusal::Misfit(_)) => unreachable!("it is a record"),
+            Err(Refusal::Limit(_)) => {
+                self.add_limits(&record.broken_limits());
+                self.orders.add_if(too_long && !no_room, "8 for a frame too long");
+                self.orders.add_if(!too_long && no_room, "8 for a room too short");
+                self.orders.add_if(too_long && no_room, "8 for a frame too long and a room too short for it");
+                return;
+            }
+            Err(Refusal::FrameTooLong) => {
+                self.orders.add(if no_room { "1 for a room too short" } else { "1 for a room long enough" });
+            }
+            Err(Refusal::NoRoom) => self.rooms.add(match (room, length - room) {
+                (0, _) => "9, no byte",
+                (_, 1) => "9, a byte short",
+                _ => "9, some bytes short",
+            }),
+            Ok(_) => {
+                self.rooms.add(match room - length {
+                    0 => "0, just long enough",
+                    1 => "0, a byte left",
+                    _ => "0, some bytes left",
+                });
+                count_record(&mut self.records, length, &record.to_beacon().expect("it was written"));
+            }
+        }
+        *self.lengths.entry(length).or_default() += 1;
+    }
+
+    fn add_limits(&mut self, broken: &[Limit]) {
+        if let [limit] = broken {
+            self.alone.add(format!("{limit:?}"));
+        }
+        for (place, &first) in broken.iter().enumerate() {
+            for &second in &broken[place + 1..] {
+                *self.together.entry((first, second)).or_default() += 1;
+            }
+        }
+    }
+
+    /// Panics unless there was every kind of record, every number, refusal, pair of limits, room and form of the record
+    /// was met at least `least` times, and every length of a frame.
+    pub fn expect(&self, least: usize) {
+        self.kinds.expect("records", 1, &records::Kind::ALL.map(|kind| format!("{kind:?}")));
+        self.numbers.expect("numbers", least, &[0, 1, 8, 9].map(|number| number.to_string()));
+        let limits = Limit::ALL.iter().map(|limit| Refusal::Limit(*limit));
+        let misfits = records::misfits().into_iter().map(Refusal::Misfit);
+        let refusals: Vec<String> = limits
+            .chain(misfits)
+            .chain([Refusal::FrameTooLong, Refusal::NoRoom])
+            .map(|refusal| format!("{refusal:?}"))
+            .collect();
+        self.refusals.expect("first fault", least, &refusals);
+        // No timeslot is below size 0, so that one is never broken alone.
+        let alone: Vec<String> = Limit::ALL
+            .iter()
+            .filter(|limit| **limit != Limit::SlotframeSize)
+            .map(|limit| format!("{limit:?}"))
+            .collect();
+        self.alone.expect("limits broken alone", least, &alone);
+        self.expect_together(least);
+        self.orders.expect(
+            "order of faults",
+            least,
+            &[
+                "8 for a frame too long",
+                "8 for a room too short",
+                "8 for a frame too long and a room too short for it",
+                "1 for a room too short",
+                "1 for a room long enough",
+            ],
+        );
+        self.rooms.expect(
+            "rooms",
+            least,
+            &[
+                "9, no byte",
+                "9, a byte short",
+                "9, some bytes short",
+                "0, just long enough",
+                "0, a byte left",
+                "0, some bytes left",
+            ],
+        );
+        self.records.expect("records written", least, &record_names());
+        let met: BTreeSet<usize> = self.lengths.keys().copied().collect();
+        let wanted: BTreeSet<usize> = Shape::all().iter().map(Shape::length).collect();
+        assert_eq!(met, wanted, "lengths of frames");
+        println!("{} lengths of frames, each at least {} times", met.len(), self.lengths.values().min().unwrap_or(&0));
+    }
+
+    fn expect_together(&self, least: usize) {
+        let mut pairs = 0;
+        for (place, &first) in Limit::ALL.iter().enumerate() {
+            for &second in &Limit::ALL[place + 1..] {
+                let count = self.together.get(&(first, second)).copied().unwrap_or(0);
+                if WriteCoverage::NOT_TOGETHER.contains(&(first, second)) {
+                    assert_eq!(count, 0, "{first:?} and {second:?} are both broken");
+                } else {
+                    assert!(count >= least, "{first:?} and {second:?}: {count} times, not {least}");
+                    pairs += 1;
+                }
+            }
+        }
+        println!("{pairs} pairs of limits, each at least {} times", self.together.values().min().unwrap_or(&0));
     }
 }

@@ -43,6 +43,19 @@ unsafe extern "C" {
     /// `frame` is not null and valid for reading `length` bytes; `start` is not null, aligned and valid for writing,
     /// and not part of the frame.
     pub unsafe fn tesolvagna_network_id(frame: *const u8, length: usize, start: *mut usize) -> usize;
+
+    /// # Safety
+    /// `room` is not null and valid for writing `room_length` bytes; the arrays are not null, aligned and valid for
+    /// reading; `length` is not null, aligned and valid for writing. Neither `room` nor `length` overlaps another.
+    pub unsafe fn tesolvagna_write(
+        room: *mut u8,
+        room_length: usize,
+        numbers: *const [u64; NUMBERS],
+        timings: *const [u32; TIMINGS],
+        links: *const [u16; LINK_NUMBERS],
+        network: *const [u8; LONGEST_NETWORK_ID],
+        length: *mut usize,
+    ) -> u8;
 }
 
 /// The library's slot decision.
@@ -209,4 +222,15 @@ pub fn network_id(frame: &[u8]) -> Range<usize> {
     // SAFETY: a slice's pointer is not null and valid for its length; `start` is a variable of its own.
     let length = unsafe { tesolvagna_network_id(frame.as_ptr(), frame.len(), &mut start) };
     start..start + length
+}
+
+/// The library's writing of a record: gives the number and the frame's length.
+pub fn write(record: &Flat, room: &mut [u8]) -> (u8, usize) {
+    let Flat { numbers, timings, links, network } = record;
+    let mut length = usize::MAX;
+    // SAFETY: a slice's pointer is not null and valid for its length; the arrays are borrowed, and neither the room nor
+    // `length`, a variable of its own, is part of them.
+    let number =
+        unsafe { tesolvagna_write(room.as_mut_ptr(), room.len(), numbers, timings, links, network, &mut length) };
+    (number, length)
 }

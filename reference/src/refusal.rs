@@ -1,6 +1,6 @@
 //! The refusal numbers that the reference gives; 0 is done.
 
-/// The frame is longer than 125 bytes.
+/// The frame is longer than 125 bytes, or would be when written.
 pub const TOO_LONG: u8 = 1;
 /// A field, an element or an element's two descriptor bytes run past what encloses them.
 pub const CUT: u8 = 2;
@@ -16,6 +16,8 @@ pub const SHAPE: u8 = 6;
 pub const MISSING_OR_TWICE: u8 = 7;
 /// A number is outside its limits.
 pub const OUTSIDE_LIMITS: u8 = 8;
+/// The lent room is shorter than the frame to be written.
+pub const NO_ROOM: u8 = 9;
 /// The neighbour is not in the table.
 pub const UNKNOWN_NEIGHBOUR: u8 = 10;
 /// The neighbour is new and all places are in use.

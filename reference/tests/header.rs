@@ -50,6 +50,11 @@ fn c_program_reads_frames() {
 }
 
 #[test]
+fn c_program_writes_frames() {
+    run_c_program("writing");
+}
+
+#[test]
 fn header_is_cxx_too() {
     expect_success(
         Command::new("c++")

@@ -34,7 +34,7 @@ module _ {A : Type 0} {r : A} (x y : A) where
     if-ne h e = rw (ne-eqb a b h) e
 
 -- ---- the way back: where the answer is not the one of the other branch, the test went this way
-by-test : {X : Type 0} (test : Bool) → (test ≡ true → X) → (test ≡ false → X) → X
+pub by-test : {X : Type 0} (test : Bool) → (test ≡ true → X) → (test ≡ false → X) → X
 by-test true on off = on refl
 by-test false on off = off refl
 
@@ -61,6 +61,10 @@ module _ {A : Type 0} (x y r : A) where
   pub was-on : (test : Bool) → ifOn test x y ≡ r → (y ≡ r → ⊥) → (test ≡ true) × (x ≡ r)
   unfolding ifOn
   was-on test e other = by-test test (λ t. (t, rw t at e)) (λ t. absurd (other (rw t at e)))
+
+  pub was-off : (test : Bool) → ifOn test x y ≡ r → (x ≡ r → ⊥) → (test ≡ false) × (y ≡ r)
+  unfolding ifOn
+  was-off test e other = by-test test (λ t. absurd (other (rw t at e))) (λ t. (t, rw t at e))
 
 -- ---- what holds of both answers holds of the choice
 module _ {A : Type 0} (P : A → Type 0) (x y : A) (one : P x) (other : P y) where

@@ -1,0 +1,10 @@
+-- The theorem that `accepted::theorems` cites is proved. Assumes nothing.
+use Rattle.accepted.proofs.Fits.{accepted-fits}
+use Rattle.accepted.proofs.theorems.Statement.{statement}
+use Rattle.accepted.proofs.theorems.Tie as tie
+
+returns : tie.Need-returns
+returns c = accepted-fits
+
+pub theorems-spec : {M : Type 1} → statement M
+theorems-spec = tie.close (tie.spec returns)

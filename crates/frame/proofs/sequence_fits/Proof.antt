@@ -1,0 +1,24 @@
+-- `frame::sequence_fits` meets its contract. Assumes nothing.
+use Rattle.frame.proofs.LimitLaws.{limits}
+use borrow.Author.Needs.{needs}
+use Rattle.frame.proofs.sequence_fits.Statement.{statement}
+use Rattle.frame.proofs.sequence_fits.Tie as tie
+
+enum-told : tie.Need-enum-told
+enum-told c = search needs
+
+returns : tie.Need-returns
+returns c = search (needs, limits)
+
+enum-known-q : tie.Need-enum-known-q
+enum-known-q c = search needs
+
+in-one-byte-requires : tie.Need-in-one-byte-requires
+in-one-byte-requires c κs = search needs
+
+returns-2 : tie.Need-returns-2
+returns-2 c = search (needs, limits)
+
+pub sequence-fits-spec : {M : Type 1} → statement M
+sequence-fits-spec =
+    tie.close (tie.spec enum-told returns enum-known-q in-one-byte-requires returns-2)

@@ -1,0 +1,20 @@
+-- `frame::sequence_size` meets its contract. Assumes nothing.
+use Rattle.frame.proofs.LimitLaws.{limits}
+use borrow.Author.Needs.{needs}
+use Rattle.frame.proofs.sequence_size.Statement.{statement}
+use Rattle.frame.proofs.sequence_size.Tie as tie
+
+enum-told : tie.Need-enum-told
+enum-told c = search needs
+
+returns : tie.Need-returns
+returns c = search (needs, limits)
+
+enum-told-2 : tie.Need-enum-told-2
+enum-told-2 c = search needs
+
+returns-2 : tie.Need-returns-2
+returns-2 c = search (needs, limits)
+
+pub sequence-size-spec : {M : Type 1} → statement M
+sequence-size-spec = tie.close (tie.spec enum-told returns enum-told-2 returns-2)

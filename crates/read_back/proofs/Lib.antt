@@ -1,0 +1,16 @@
+pub mod Stands
+pub mod Rows
+pub mod Fitting
+pub mod OpeningFields
+pub mod Heads
+pub mod Steps
+pub mod SynchronizationPart
+pub mod TimeslotPart
+pub mod HoppingPart
+pub mod SlotframePart
+pub mod JoiningPart
+pub mod GroupPart
+pub mod ElementsPart
+pub mod FrameLengths
+pub mod ReadsBack
+pub mod Shortest

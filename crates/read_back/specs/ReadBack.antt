@@ -1,0 +1,42 @@
+-- What is written reads back (docs/RULES.md, Writing). Assumes nothing.
+use Prim.Native.Nat.{ℕ, _≤_}
+use mathlib.Core.Path.{_≡_}
+use mathlib.Core.Bool.{true}
+use lib.ListN.{length}
+use Rattle.beacon.specs.declared.Beacon.{Beacon}
+use Rattle.frame.specs.Frame.{frameOf, frameLength}
+use Rattle.frame.specs.Limits.{fits}
+use Rattle.reader.specs.Read.{readFrame}
+use Rattle.reader.specs.declared.ReadAnswer.{ReadAnswer}
+
+-- the record's arrays have their sizes: twelve timings, sixteen links, sixteen bytes of a network ID
+pub record Sized (b : Beacon) : Type 0 where
+  pub timings : length (b .timeslot .timings) ≡ 12
+  pub links : length (b .slotframe .links) ≡ 16
+  pub network : length (b .joining .network) ≡ 16
+
+-- a record that can be written: it is within the limits, and its frame has at most 125 bytes
+pub record Writable (b : Beacon) : Type 0 where
+  pub sized : Sized b
+  pub within : fits b ≡ true
+  pub short : length (frameOf b) ≤ 125
+
+-- reading the frame of a record that can be written is done, and gives that record
+abbrev pub FramesReadBack : Type 0
+FramesReadBack = (b : Beacon) → Writable b → readFrame (frameOf b) ≡ record { number = 0; beacon = b }
+
+-- two records that can be written and have the same frame are equal
+abbrev pub FramesDiffer : Type 0
+FramesDiffer = (a b : Beacon) → Writable a → Writable b → frameOf a ≡ frameOf b → a ≡ b
+
+-- the frame has the length that the formula says
+abbrev pub LengthIsTheFormula : Type 0
+LengthIsTheFormula = (b : Beacon) → Sized b → fits b ≡ true → length (frameOf b) ≡ frameLength b
+
+-- from 38 bytes to 177
+abbrev pub LengthsFrom38To177 : Type 0
+LengthsFrom38To177 = (b : Beacon) → fits b ≡ true → (38 ≤ frameLength b) × (frameLength b ≤ 177)
+
+-- both are met, by records within the limits, and the shortest frame can be written
+abbrev pub LengthsAreMet : Type 0
+LengthsAreMet = ((b : Beacon) × Writable b × (frameLength b ≡ 38)) × ((b : Beacon) × (fits b ≡ true) × (frameLength b ≡ 177))

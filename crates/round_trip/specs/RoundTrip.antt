@@ -1,0 +1,16 @@
+-- Writing and reading back (docs/RULES.md, Writing). Assumes nothing.
+use Prim.Native.Nat.{ℕ}
+use Rattle.octets.specs.Choice.{ifEq}
+use Rattle.beacon.specs.Refusal.{done}
+use Rattle.beacon.specs.Record.{blankBeacon}
+use Rattle.beacon.specs.declared.Beacon.{Beacon}
+use Rattle.reader.specs.declared.ReadAnswer.{ReadAnswer}
+use Rattle.writer.specs.Write.{writtenNumber}
+
+-- a reading that is done and gives this record
+abbrev pub readAs : Beacon → ReadAnswer
+readAs b = record { number = done; beacon = b }
+
+-- what comes back from a room of this length: the record itself if it is written, and else the number of the refusal with the blank record
+unfoldable pub backFrom : Beacon → ℕ → ReadAnswer
+backFrom b room = ifEq (writtenNumber b room) done (readAs b) (record { number = writtenNumber b room; beacon = blankBeacon })

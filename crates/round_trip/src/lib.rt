@@ -1,0 +1,42 @@
+// Writing a record and reading back what was written: every record that can be written comes back as itself.
+ghost use mathlib.Core.Path.{_≡_};
+ghost use mathlib.Core.Bool.{true};
+ghost use Prim.Native.Nat.{_≤_};
+ghost use lib.ListN.{length};
+ghost use Rattle.frame.specs.Frame.{frameOf};
+ghost use Rattle.frame.specs.Limits.{fits};
+ghost use Rattle.read_back.specs.ReadBack.{Sized};
+ghost use Rattle.writer.specs.Write.{roomAfter};
+ghost use Rattle.round_trip.specs.RoundTrip.{readAs, backFrom};
+use beacon::Beacon;
+use reader::ReadAnswer;
+
+// A record's arrays have their sizes by their types. The function does nothing; a proof learns it from the call.
+fn sized(b: Beacon)
+    ensures { λ _. ⌜ Sized b ⌝ }
+{}
+
+// Reads a frame that was written of a record.
+fn read_written(frame: &[u8], b: Beacon) -> ReadAnswer
+    requires { ⌜ (now frame ≡ frameOf b) × (fits b ≡ true) × (length (frameOf b) ≤ 125) ⌝ }
+    ensures { λ r. ⌜ r ≡ readAs b ⌝ }
+{
+    sized(b);
+    reader::read(frame)
+}
+
+// Writes a record's frame at the start of a lent room, and reads it there.
+pub fn write_and_read(room: &mut [u8], b: Beacon) -> ReadAnswer
+    ensures answer { λ r. ⌜ r ≡ backFrom b (length (now (room .entry))) ⌝ }
+    ensures room { λ _. ⌜ now (room .exit) ≡ roomAfter b (now (room .entry)) ⌝ }
+{
+    let written = writer::write(room, b);
+    if written.number != 0 {
+        return ReadAnswer {
+            number: written.number,
+            beacon: beacon::blank(),
+        };
+    }
+    let length = written.length;
+    read_written(&room[..length], b)
+}

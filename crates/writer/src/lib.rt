@@ -1,0 +1,95 @@
+// Writing beacons: the frame of a record, put into a lent room. Nothing is stored before the last check.
+use beacon::refusal::DONE;
+use beacon::refusal::FRAME_TOO_LONG;
+use beacon::refusal::OUT_OF_LIMITS;
+use beacon::refusal::ROOM_TOO_SHORT;
+ghost use mathlib.Core.Path.{_≡_};
+ghost use mathlib.Core.List.{_++_};
+ghost use Prim.Native.Nat.{_<_};
+ghost use lib.ListN.{length};
+ghost use Rattle.octets.specs.Number.{stored};
+ghost use Rattle.frame.specs.Frame.{headerDescriptor, joiningBytes, frameOf};
+ghost use Rattle.mlme.specs.Group.{groupPart};
+ghost use Rattle.writer.specs.Write.{writtenIn, roomAfter};
+ghost use Rattle.writer.specs.Claims.{WriteNumbers};
+use beacon::Beacon;
+use beacon::JoiningInformation;
+use beacon::Slotframe;
+use beacon::Synchronization;
+use beacon::TimeslotTemplate;
+
+// The answer of a call: its number and, if the frame was written, its length, else 0.
+pub struct Written {
+    pub number: u8,
+    pub length: usize,
+}
+
+// The elements: the header list's terminator, the MLME group, joining information.
+fn put_elements(
+    room: &mut [u8],
+    at: usize,
+    y: Synchronization,
+    t: TimeslotTemplate,
+    hopping: u8,
+    f: Slotframe,
+    j: JoiningInformation,
+)
+    requires { ⌜ f .count < 17 ⌝ }
+    ensures { λ _. ⌜ now (room .exit) ≡ stored (now (room .entry)) at (headerDescriptor 126 0 ++ (groupPart y t hopping f ++ joiningBytes j)) ⌝ }
+{
+    if room.len() <= at {
+        return;
+    }
+    let size = frame::group_size(t, f.count);
+    octets::put_le(room, at, 2, 16128);
+    mlme::put_group(room, at + 2, y, t, hopping, f);
+    sections::put_joining(room, at + (4 + size), j);
+}
+
+// The frame at the room's start.
+fn put_frame(room: &mut [u8], b: Beacon)
+    requires { ⌜ b .slotframe .count < 17 ⌝ }
+    ensures { λ _. ⌜ now (room .exit) ≡ stored (now (room .entry)) 0 (frameOf b) ⌝ }
+{
+    let q = b.sequence;
+    let a = b.source;
+    let y = b.synchronization;
+    let t = b.timeslot;
+    let f = b.slotframe;
+    let j = b.joining;
+    let at = 6 + frame::sequence_size(q) + frame::source_size(a);
+    sections::put_opening(room, q, b.pan, a);
+    put_elements(room, at, y, t, b.hopping, f, j);
+}
+
+// Writes a record's frame at the start of a lent room.
+pub fn write(room: &mut [u8], b: Beacon) -> Written
+    ensures answer { λ r. ⌜ r ≡ writtenIn b (length (now (room .entry))) ⌝ }
+    ensures room { λ _. ⌜ now (room .exit) ≡ roomAfter b (now (room .entry)) ⌝ }
+    ensures numbers { λ _. ⌜ WriteNumbers ⌝ }
+{
+    if !frame::within_limits(b) {
+        return Written {
+            number: OUT_OF_LIMITS,
+            length: 0,
+        };
+    }
+    let length = frame::frame_length(b);
+    if 125 < length {
+        return Written {
+            number: FRAME_TOO_LONG,
+            length: 0,
+        };
+    }
+    if room.len() < length {
+        return Written {
+            number: ROOM_TOO_SHORT,
+            length: 0,
+        };
+    }
+    put_frame(room, b);
+    Written {
+        number: DONE,
+        length,
+    }
+}
