@@ -113,6 +113,26 @@ uint8_t tesolvagna_channel(uint64_t asn, uint16_t offset);
  */
 #define TESOLVAGNA_TABLE_NUMBERS 162
 
+/* Places of a table's numbers: a neighbour's count from TESOLVAGNA_NEIGHBOUR_STRIDE * i, the parent's from the start. */
+enum tesolvagna_table {
+    TESOLVAGNA_NEIGHBOUR_IN_USE = 0,
+    TESOLVAGNA_NEIGHBOUR_ID = 1,
+    TESOLVAGNA_NEIGHBOUR_RANK = 2,
+    TESOLVAGNA_NEIGHBOUR_ATTEMPTS = 3,
+    TESOLVAGNA_NEIGHBOUR_ACKNOWLEDGED = 4,
+    TESOLVAGNA_PARENT_PRESENT = 160,
+    TESOLVAGNA_PARENT_ID = 161
+};
+
+/* How many neighbours a table has places for, and how many numbers each place has. */
+enum tesolvagna_table_length {
+    TESOLVAGNA_NEIGHBOURS = 32,
+    TESOLVAGNA_NEIGHBOUR_STRIDE = 5
+};
+
+/* The own rank without a parent. */
+#define TESOLVAGNA_NO_RANK 65535
+
 /* Own rank after an evaluation: 65535 where there is no parent, and where it is refused. */
 struct tesolvagna_evaluated {
     uint16_t number;
@@ -158,6 +178,7 @@ struct tesolvagna_counts tesolvagna_replay(
     const uint64_t *ids, size_t ids_len,
     const uint16_t *values, size_t values_len,
     const uint8_t *flags, size_t flags_len);
+
 /* Places of a record's numbers. A number that the beacon does not say is 0. */
 enum tesolvagna_record {
     /* 1 if there is a sequence number. */
@@ -196,6 +217,20 @@ enum tesolvagna_record_length {
     TESOLVAGNA_TIMINGS = 12,
     TESOLVAGNA_LINK_NUMBERS = 48,
     TESOLVAGNA_NETWORK_ID_BYTES = 16
+};
+
+/* Places of a link's three numbers, counted from TESOLVAGNA_LINK_STRIDE * i for link i. */
+enum tesolvagna_link_numbers {
+    TESOLVAGNA_LINK_TIMESLOT = 0,
+    TESOLVAGNA_LINK_OFFSET = 1,
+    TESOLVAGNA_LINK_OPTIONS = 2,
+    TESOLVAGNA_LINK_STRIDE = 3
+};
+
+/* The most bytes that a frame may have, and the most links. */
+enum tesolvagna_most {
+    TESOLVAGNA_LONGEST_FRAME = 125,
+    TESOLVAGNA_MOST_LINKS = 16
 };
 
 /*
@@ -316,6 +351,11 @@ TESOLVAGNA_ASSERT(offsetof(struct tesolvagna_slot, place) == 8);
 TESOLVAGNA_ASSERT(sizeof(struct tesolvagna_evaluated) == 4);
 TESOLVAGNA_ASSERT(sizeof(struct tesolvagna_metric) == 2);
 TESOLVAGNA_ASSERT(sizeof(struct tesolvagna_counts) == 56);
+
+/* The places leave no gap. */
+TESOLVAGNA_ASSERT((int)TESOLVAGNA_NEIGHBOURS * (int)TESOLVAGNA_NEIGHBOUR_STRIDE == (int)TESOLVAGNA_PARENT_PRESENT);
+TESOLVAGNA_ASSERT(TESOLVAGNA_PARENT_ID + 1 == TESOLVAGNA_TABLE_NUMBERS);
+TESOLVAGNA_ASSERT((int)TESOLVAGNA_MOST_LINKS * (int)TESOLVAGNA_LINK_STRIDE == (int)TESOLVAGNA_LINK_NUMBERS);
 
 #undef TESOLVAGNA_ASSERT
 

@@ -1,8 +1,7 @@
-/* Calls the library through its C header on two schedules and a neighbour table; the exit status is the number of wrong
+/* Calls the library through its C header on schedules and neighbour tables; the exit status is the number of wrong
  * answers. */
 #include "tesolvagna.h"
 
-/* Until the header has the table's part itself. */
 #include <stdio.h>
 #include <string.h>
 
@@ -40,6 +39,41 @@ static int layout(void)
     failures += differs("first of counts", offsetof(struct tesolvagna_counts, first), 32);
     failures += differs("last of counts", offsetof(struct tesolvagna_counts, last), 40);
     failures += differs("applies of counts", offsetof(struct tesolvagna_counts, applies), 48);
+    return failures;
+}
+
+/* The names of a table's places and limits, on a table whose parent has the second place, and on a full one. */
+static int places(void)
+{
+    enum { second = TESOLVAGNA_NEIGHBOUR_STRIDE };
+    static const uint64_t expected[TESOLVAGNA_TABLE_NUMBERS] = {
+        [TESOLVAGNA_NEIGHBOUR_IN_USE] = 1,
+        [TESOLVAGNA_NEIGHBOUR_ID] = 7,
+        [TESOLVAGNA_NEIGHBOUR_RANK] = 300,
+        [second + TESOLVAGNA_NEIGHBOUR_IN_USE] = 1,
+        [second + TESOLVAGNA_NEIGHBOUR_ID] = 9,
+        [second + TESOLVAGNA_NEIGHBOUR_RANK] = 600,
+        [second + TESOLVAGNA_NEIGHBOUR_ATTEMPTS] = 4,
+        [second + TESOLVAGNA_NEIGHBOUR_ACKNOWLEDGED] = 2,
+        [TESOLVAGNA_PARENT_PRESENT] = 1,
+        [TESOLVAGNA_PARENT_ID] = 9,
+    };
+    uint64_t found[TESOLVAGNA_TABLE_NUMBERS] = {0};
+    uint64_t full[TESOLVAGNA_TABLE_NUMBERS] = {0};
+    uint64_t id;
+    int failures = 0;
+
+    failures += differs("own rank of the empty table", tesolvagna_evaluate(found).rank, TESOLVAGNA_NO_RANK);
+    failures += differs("first place", tesolvagna_advertise(found, 7, 300), TESOLVAGNA_DONE);
+    failures += differs("second place", tesolvagna_advertise(found, 9, 600), TESOLVAGNA_DONE);
+    failures += differs("3 attempts", tesolvagna_report(found, 9, 3, true), TESOLVAGNA_DONE);
+    failures += differs("1 attempt", tesolvagna_report(found, 9, 1, true), TESOLVAGNA_DONE);
+    failures += differs("evaluation", tesolvagna_evaluate(found).number, TESOLVAGNA_DONE);
+    failures += differs("named places", (uint64_t)(memcmp(found, expected, sizeof(found)) != 0), 0);
+
+    for (id = 0; id < TESOLVAGNA_NEIGHBOURS; id++)
+        failures += differs("a place is free", tesolvagna_advertise(full, id, 300), TESOLVAGNA_DONE);
+    failures += differs("no place is free", tesolvagna_advertise(full, id, 300), TESOLVAGNA_TABLE_FULL);
     return failures;
 }
 
@@ -118,6 +152,8 @@ int main(void)
         {3, 65535, TESOLVAGNA_OPTION_RECEIVE},
         {3, 256, TESOLVAGNA_OPTION_TRANSMIT},
     };
+    /* No options: asleep, unless refused. */
+    static const struct tesolvagna_link many[TESOLVAGNA_MOST_LINKS + 1];
     const uint64_t largest = ((uint64_t)1 << 40) - 1;
     int failures = 0;
 
@@ -141,11 +177,17 @@ int main(void)
     failures += wrong("mixed, no links", tesolvagna_decide(mixed, 0, 5, 0, 8, true), TESOLVAGNA_OUTSIDE_LIMITS,
                       TESOLVAGNA_SLEEP, 0, 0);
 
+    failures += wrong("as many links as may be", tesolvagna_decide(many, TESOLVAGNA_MOST_LINKS, 1, 0, 0, true),
+                      TESOLVAGNA_DONE, TESOLVAGNA_SLEEP, 0, 0);
+    failures += wrong("a link more", tesolvagna_decide(many, TESOLVAGNA_MOST_LINKS + 1, 1, 0, 0, true),
+                      TESOLVAGNA_OUTSIDE_LIMITS, TESOLVAGNA_SLEEP, 0, 0);
+
     if (tesolvagna_channel(largest, 0) != 21 || tesolvagna_channel(largest, 1) != 16) {
         printf("channel of ASN 2^40 - 1\n");
         failures += 1;
     }
     failures += layout();
+    failures += places();
     failures += table();
     return failures;
 }

@@ -55,14 +55,25 @@ static const struct record said = {
             [TESOLVAGNA_NETWORK_ID_LENGTH] = 3,
         },
     .timings = {1, 2, 3, 4, 5, 6, 7, 8, 9, 10, 0x1000B, 0x2000C},
-    .links = {9, 10, 11, 12, 13, 14},
+    .links =
+        {
+            [TESOLVAGNA_LINK_TIMESLOT] = 9,
+            [TESOLVAGNA_LINK_OFFSET] = 10,
+            [TESOLVAGNA_LINK_OPTIONS] = 11,
+            [TESOLVAGNA_LINK_STRIDE + TESOLVAGNA_LINK_TIMESLOT] = 12,
+            [TESOLVAGNA_LINK_STRIDE + TESOLVAGNA_LINK_OFFSET] = 13,
+            [TESOLVAGNA_LINK_STRIDE + TESOLVAGNA_LINK_OPTIONS] = 14,
+        },
     .network = {0xAA, 0x00, 0xBB},
 };
 static const struct record blank;
 
+/* As long as a frame may be, and a byte more; no beacon. */
+static const uint8_t zeros[TESOLVAGNA_LONGEST_FRAME + 1];
+
 /* Whether reading the first `length` bytes goes otherwise than expected. */
-static int wrong(const char *name, size_t length, uint8_t number, const struct record *expected, size_t start,
-                 size_t network_length)
+static int wrong(const char *name, const uint8_t *bytes, size_t length, uint8_t number, const struct record *expected,
+                 size_t start, size_t network_length)
 {
     struct record record;
     size_t found_start, found_length;
@@ -70,8 +81,8 @@ static int wrong(const char *name, size_t length, uint8_t number, const struct r
     int same;
 
     memset(&record, 0x55, sizeof record);
-    found = tesolvagna_read(frame, length, &record.numbers, &record.timings, &record.links, &record.network);
-    found_length = tesolvagna_network_id(frame, length, &found_start);
+    found = tesolvagna_read(bytes, length, &record.numbers, &record.timings, &record.links, &record.network);
+    found_length = tesolvagna_network_id(bytes, length, &found_start);
     same = memcmp(record.numbers, expected->numbers, sizeof record.numbers) == 0
            && memcmp(record.timings, expected->timings, sizeof record.timings) == 0
            && memcmp(record.links, expected->links, sizeof record.links) == 0
@@ -87,9 +98,11 @@ int main(void)
 {
     int failures = 0;
 
-    failures += wrong("whole", sizeof frame, TESOLVAGNA_DONE, &said, sizeof frame - 3, 3);
-    failures += wrong("without its last byte", sizeof frame - 1, TESOLVAGNA_CUT, &blank, 0, 0);
-    failures += wrong("fields alone", 15, TESOLVAGNA_MISSING_OR_TWICE, &blank, 0, 0);
-    failures += wrong("empty", 0, TESOLVAGNA_CUT, &blank, 0, 0);
+    failures += wrong("whole", frame, sizeof frame, TESOLVAGNA_DONE, &said, sizeof frame - 3, 3);
+    failures += wrong("without its last byte", frame, sizeof frame - 1, TESOLVAGNA_CUT, &blank, 0, 0);
+    failures += wrong("fields alone", frame, 15, TESOLVAGNA_MISSING_OR_TWICE, &blank, 0, 0);
+    failures += wrong("empty", frame, 0, TESOLVAGNA_CUT, &blank, 0, 0);
+    failures += wrong("longest", zeros, TESOLVAGNA_LONGEST_FRAME, TESOLVAGNA_NOT_A_BEACON, &blank, 0, 0);
+    failures += wrong("a byte longer", zeros, TESOLVAGNA_LONGEST_FRAME + 1, TESOLVAGNA_TOO_LONG, &blank, 0, 0);
     return failures;
 }
