@@ -1,2 +1,5 @@
 pub mod ListLaws
 pub mod Fits
+pub mod Behind
+pub mod Counts
+pub mod NotLonger

@@ -1,10 +1,11 @@
--- Tests of every entry: of lists that are counted out, of blank ones, and of the two parts of a padded list. Assumes nothing.
+-- Tests of every entry: of lists that are counted out, of blank ones, and of the two parts of a padded list; and a padded list's
+-- length. Assumes nothing.
 use Prim.Native.Nat.{ℕ, zero, suc, _-_, _<_, _≤_, min}
-use mathlib.Core.Path.{_≡_, refl, sym}
+use mathlib.Core.Path.{_≡_, refl, sym, _∙_}
 use mathlib.Core.Bool.{Bool, true, _&&_, and-assoc}
 use mathlib.Core.List.{List, [], _∷_, _++_}
 use native.Mathlib.Omega.{arith}
-use lib.ListN.{take, drop, replicate}
+use lib.ListN.{length, take, drop, replicate, length-append, length-replicate}
 use lib.Seq.{take-at, drop-at}
 use Rattle.octets.specs.Counted.{counted, padded}
 use Rattle.octets.proofs.CountedLaws.{length-counted}
@@ -41,3 +42,9 @@ module _ {A : Type 0} (test : A → Bool) where
       pub all-unused : test blank ≡ true → all test (drop n (padded f blank size n)) ≡ true
       unfolding padded
       all-unused h = let all-of : min n size ≡ n = omega arith in rw (all-of, drop-at (counted f n) (replicate (size - n) blank) n (length-counted f n)) (all-blank (size - n) blank h)
+
+pub length-padded : {A : Type 0} (f : ℕ → A) (blank : A) (size n : ℕ) → length (padded f blank size n) ≡ size
+unfolding padded
+length-padded f blank size n =
+    let k : ℕ = min n size in
+    length-append (counted f k) (replicate (size - k) blank) ∙ omega (arith, length-counted f k, length-replicate (size - k) blank)

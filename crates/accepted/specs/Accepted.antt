@@ -1,12 +1,22 @@
 -- What reading accepts can be written (docs/RULES.md, Writing). Assumes nothing.
-use Prim.Native.Nat.{ℕ}
+use Prim.Native.Nat.{ℕ, _≤_}
 use mathlib.Core.Path.{_≡_}
 use mathlib.Core.Bool.{true}
 use mathlib.Core.List.{List}
+use lib.ListN.{length}
 use Rattle.reader.specs.Read.{readFrame}
 use Rattle.reader.specs.Claims.{Bytes}
+use Rattle.frame.specs.Frame.{frameOf}
 use Rattle.frame.specs.Limits.{fits}
 
 -- every record that reading accepts is within the limits of writing
 abbrev pub AcceptedFits : Type 0
 AcceptedFits = (s : List ℕ) → Bytes s → readFrame s .number ≡ 0 → fits (readFrame s .beacon) ≡ true
+
+-- what was read is written in at most as many bytes as were received
+abbrev pub WrittenIsNotLonger : Type 0
+WrittenIsNotLonger = (s : List ℕ) → Bytes s → readFrame s .number ≡ 0 → length (frameOf (readFrame s .beacon)) ≤ length s
+
+-- so that writing does not refuse it for its length
+abbrev pub WrittenIsShort : Type 0
+WrittenIsShort = (s : List ℕ) → Bytes s → readFrame s .number ≡ 0 → length (frameOf (readFrame s .beacon)) ≤ 125

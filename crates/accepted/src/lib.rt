@@ -1,7 +1,9 @@
-// A theorem about the records that reading accepts (specs/Accepted.antt).
-ghost use Rattle.accepted.specs.Accepted.{AcceptedFits};
+// Theorems about the records that reading accepts (specs/Accepted.antt).
+ghost use Rattle.accepted.specs.Accepted.{AcceptedFits, WrittenIsNotLonger, WrittenIsShort};
 
-// Cites the theorem, so that the gate fails if its proof goes.
+// Cites the theorems, so that the gate fails if a proof goes.
 pub fn theorems()
     ensures accepted_fits { λ r. ⌜ AcceptedFits ⌝ }
+    ensures written_is_not_longer { λ r. ⌜ WrittenIsNotLonger ⌝ }
+    ensures written_is_short { λ r. ⌜ WrittenIsShort ⌝ }
 {}

@@ -136,15 +136,15 @@ module _ (s : List ℕ) (from to : ℕ) (seen : Seen) where
   kind-joining e = joining-passed s from to (seen .joining) e
 
   module _ (end : ℕ) (h : to ≤ end) where
-    kind-sync-ends : partFault s 26 from to seen ≡ 0 → from + 6 ≤ end
+    pub kind-sync-ends : partFault s 26 from to seen ≡ 0 → from + 6 ≤ end
     unfolding partFault ifEq
     kind-sync-ends e = sync-ends from to (seen .synchronization) end h e
 
-    kind-hopping-ends : partFault s 137 from to seen ≡ 0 → from + 1 ≤ end
+    pub kind-hopping-ends : partFault s 137 from to seen ≡ 0 → from + 1 ≤ end
     unfolding partFault ifEq
     kind-hopping-ends e = hopping-ends from to (seen .hopping) end h e
 
-    kind-slotframe-ends : partFault s 27 from to seen ≡ 0 → from + (5 + 5 * getD s (from + 4) 0) ≤ end
+    pub kind-slotframe-ends : partFault s 27 from to seen ≡ 0 → from + (5 + 5 * getD s (from + 4) 0) ≤ end
     unfolding partFault ifEq
     kind-slotframe-ends e = slotframe-ends s from to (seen .slotframe) end h e
 

@@ -1,10 +1,11 @@
--- The theorem that `accepted::theorems` cites is proved. Assumes nothing.
+-- Each theorem that `accepted::theorems` cites is proved. Assumes nothing.
 use Rattle.accepted.proofs.Fits.{accepted-fits}
+use Rattle.accepted.proofs.NotLonger.{written-is-not-longer, written-is-short}
 use Rattle.accepted.proofs.theorems.Statement.{statement}
 use Rattle.accepted.proofs.theorems.Tie as tie
 
 returns : tie.Need-returns
-returns c = accepted-fits
+returns c = (accepted-fits, (written-is-not-longer, written-is-short))
 
 pub theorems-spec : {M : Type 1} → statement M
 theorems-spec = tie.close (tie.spec returns)
