@@ -148,9 +148,10 @@ static void evaluate(uint64_t table[TESOLVAGNA_TABLE_NUMBERS])
 /* The table's calls, with the beacon's sender as one of three neighbours. */
 static void run_table(uint64_t sender)
 {
-    uint64_t table[TESOLVAGNA_TABLE_NUMBERS] = {0}; /* the empty table */
+    uint64_t table[TESOLVAGNA_TABLE_NUMBERS];
     const uint64_t second = sender + 1, deaf = sender + 2;
 
+    tesolvagna_empty(table);
     evaluate(table);
     /* Ranks are advertised in RPL's messages, not in beacons. */
     must("advertise", tesolvagna_advertise(table, sender, 512));

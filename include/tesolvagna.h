@@ -158,14 +158,34 @@ struct tesolvagna_counts {
     uint64_t applies;
 };
 
+/* Makes the lent numbers the empty table, which is 162 zeros; what they were does not matter. */
+void tesolvagna_empty(uint64_t table[TESOLVAGNA_TABLE_NUMBERS]);
+
 /* The smallest whole number not below 256 * (3t - 2a) / a, and 0 where a is 0 or 2a is over 3t. */
 uint32_t tesolvagna_increment(uint16_t attempts, uint16_t acked);
 
+/* The join metric that a node of this rank sends: rank / 256 - 1, rounded down, for ranks 256 to 65534. Any other
+ * rank is refused with 8, and such a node sends no beacon. */
 struct tesolvagna_metric tesolvagna_join_metric(uint16_t rank);
 
+/* Sets the rank of a neighbour, or adds it with no attempts in the lowest-numbered free place. 8: no table. 11: the
+ * neighbour is new and all 32 places are in use. */
 uint8_t tesolvagna_advertise(uint64_t table[TESOLVAGNA_TABLE_NUMBERS], uint64_t id, uint16_t rank);
+
+/* Counts 1 to 4 attempts to send to a neighbour, and whether they ended with an acknowledgement. Where the attempts
+ * would pass 255, attempts and acknowledged are halved first, rounding down. 8: no table, or another number of
+ * attempts. 10: the neighbour is not in the table. */
 uint8_t tesolvagna_report(uint64_t table[TESOLVAGNA_TABLE_NUMBERS], uint64_t id, uint16_t attempts, bool acked);
+
+/* Frees the place of a neighbour; held as a parent, it is so no longer. 8: no table. 10: the neighbour is not in
+ * the table. */
 uint8_t tesolvagna_forget(uint64_t table[TESOLVAGNA_TABLE_NUMBERS], uint64_t id);
+
+/* Chooses the parent and gives the own rank, which is the parent's cost: its rank and `tesolvagna_increment` of its
+ * counters. A neighbour is eligible with a rank of at least 256, at least 1 acknowledged, 3 * attempts at most 11 *
+ * acknowledged and a cost of at most 65534; the best has the least cost, then the lower identifier. The held parent
+ * is changed for the best if none is held, if it is not eligible, or if its cost is more than 640 over the best
+ * one's. Nothing but the parent changes in the table. 8: no table. */
 struct tesolvagna_evaluated tesolvagna_evaluate(uint64_t table[TESOLVAGNA_TABLE_NUMBERS]);
 
 /* Runs a log, one row for each call: kind 0 advertises the identifier with the value as rank, 1 reports the value as

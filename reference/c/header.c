@@ -85,7 +85,7 @@ static int table(void)
     static const uint16_t values[] = {1000, 1, 0, 512, 1, 1152, 0, 1153, 0, 0};
     static const uint8_t flags[] = {0, 1, 0, 0, 1, 0, 0, 0, 0, 0};
     const size_t count = sizeof(kinds);
-    uint64_t stepped[TESOLVAGNA_TABLE_NUMBERS] = {0};
+    uint64_t stepped[TESOLVAGNA_TABLE_NUMBERS];
     uint64_t replayed[TESOLVAGNA_TABLE_NUMBERS] = {0};
     struct tesolvagna_evaluated evaluated;
     struct tesolvagna_metric metric;
@@ -98,6 +98,7 @@ static int table(void)
     failures += differs("metric", metric.metric, 10);
     failures += differs("metric of 255", tesolvagna_join_metric(255).number, TESOLVAGNA_OUTSIDE_LIMITS);
 
+    tesolvagna_empty(stepped);
     failures += differs("advertise", tesolvagna_advertise(stepped, UINT64_MAX, 1000), TESOLVAGNA_DONE);
     failures += differs("report", tesolvagna_report(stepped, UINT64_MAX, 1, true), TESOLVAGNA_DONE);
     evaluated = tesolvagna_evaluate(stepped);

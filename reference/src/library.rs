@@ -118,6 +118,8 @@ unsafe extern "C" {
 
     pub safe fn tesolvagna_forget(table: &mut Numbers, id: u64) -> u8;
 
+    pub safe fn tesolvagna_empty(table: &mut Numbers);
+
     pub safe fn tesolvagna_evaluate(table: &mut Numbers) -> Evaluated;
 
     /// # Safety
@@ -151,6 +153,10 @@ pub fn advertise(numbers: &mut Numbers, identifier: u64, rank: u16) -> u8 {
 
 pub fn report(numbers: &mut Numbers, identifier: u64, attempts: u16, acknowledged: bool) -> u8 {
     tesolvagna_report(numbers, identifier, attempts, acknowledged)
+}
+
+pub fn empty(numbers: &mut Numbers) {
+    tesolvagna_empty(numbers)
 }
 
 pub fn forget(numbers: &mut Numbers, identifier: u64) -> u8 {

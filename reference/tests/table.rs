@@ -345,6 +345,15 @@ fn refused_logs() {
 
 /// A log without calls is run: nothing is counted, and the table stays.
 #[test]
+fn empty_table() {
+    let mut lent = Lent::new(&[7; TABLE_NUMBERS]);
+    library::empty(lent.numbers());
+    black_box(&mut lent);
+    assert_eq!(lent, Lent::new(&[0; TABLE_NUMBERS]));
+    assert_eq!(lent, Lent::of(&neighbours(0, None)));
+}
+
+#[test]
 fn empty_log() {
     let mut random = Random::new(0xE);
     let mut lent = Lent::of(&long_list(&mut random, Kind::Steady, 1).table);

@@ -9,7 +9,7 @@ ghost use mathlib.Core.Path.{_≡_};
 ghost use mathlib.Core.Bool.{cond};
 ghost use Rattle.octets.specs.Choice.{ifEq};
 ghost use Rattle.metric.specs.Metric.{increment, joinMetric};
-ghost use Rattle.neighbours.specs.Calls.{advertised, evaluated, forgotten, reported};
+ghost use Rattle.neighbours.specs.Calls.{advertised, emptyTable, evaluated, forgotten, reported};
 ghost use Rattle.replay.specs.Log.{log};
 ghost use Rattle.replay.specs.Replay.{replayed};
 ghost use Rattle.lent_table.specs.Layout.{laid, tableOf};
@@ -39,6 +39,14 @@ pub struct Counts {
     pub first: u64,
     pub last: u64,
     pub applies: u64,
+}
+
+// Makes lent numbers the empty table.
+#[no_mangle]
+pub extern "C" fn tesolvagna_empty(table: &mut [u64; 162])
+    ensures { λ _. ⌜ now (table .exit) ≡ laid emptyTable ⌝ }
+{
+    *table = layout(neighbours::empty());
 }
 
 // The increment of a neighbour, 0 where none was acknowledged.

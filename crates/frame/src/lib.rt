@@ -36,10 +36,10 @@ fn in_eight_bytes(n: u64) -> bool
     true
 }
 
-fn sequence_fits(q: SequenceNumber) -> bool
-    ensures { λ r. ⌜ r ≡ sequenceFits q ⌝ }
+fn sequence_fits(sequence: SequenceNumber) -> bool
+    ensures { λ r. ⌜ r ≡ sequenceFits sequence ⌝ }
 {
-    match q {
+    match sequence {
         SequenceNumber::Absent => {
             return true;
         }
@@ -49,10 +49,10 @@ fn sequence_fits(q: SequenceNumber) -> bool
     }
 }
 
-fn source_fits(a: Address) -> bool
-    ensures { λ r. ⌜ r ≡ sourceFits a ⌝ }
+fn source_fits(source: Address) -> bool
+    ensures { λ r. ⌜ r ≡ sourceFits source ⌝ }
 {
-    match a {
+    match source {
         Address::Short(n) => {
             return in_two_bytes(n);
         }
@@ -62,10 +62,10 @@ fn source_fits(a: Address) -> bool
     }
 }
 
-fn synchronization_fits(y: Synchronization) -> bool
-    ensures { λ r. ⌜ r ≡ synchronizationFits y ⌝ }
+fn synchronization_fits(synchronization: Synchronization) -> bool
+    ensures { λ r. ⌜ r ≡ synchronizationFits synchronization ⌝ }
 {
-    (y.asn < 1099511627776) & in_one_byte(y.metric)
+    (synchronization.asn < 1099511627776) & in_one_byte(synchronization.metric)
 }
 
 // Whether the timings from a place to another are below a bound.
@@ -82,27 +82,27 @@ fn timings_below(timings: [u32; 12], from: usize, to: usize, bound: u32) -> bool
     ok
 }
 
-fn template_fits(t: TimeslotTemplate) -> bool
-    ensures { λ r. ⌜ r ≡ templateFits t ⌝ }
+fn template_fits(template: TimeslotTemplate) -> bool
+    ensures { λ r. ⌜ r ≡ templateFits template ⌝ }
 {
-    let timings = t.timings;
-    if t.timed {
-        return in_one_byte(t.id)
+    let timings = template.timings;
+    if template.timed {
+        return in_one_byte(template.id)
             & (timings_below(timings, 0, 10, 65536) & timings_below(timings, 10, 12, 16777216));
     }
-    in_one_byte(t.id) & ((t.id == 0) & timings_below(timings, 0, 12, 1))
+    in_one_byte(template.id) & ((template.id == 0) & timings_below(timings, 0, 12, 1))
 }
 
-fn link_fits(l: Link, size: u16) -> bool
-    ensures { λ r. ⌜ r ≡ linkFits size l ⌝ }
+fn link_fits(link: Link, size: u16) -> bool
+    ensures { λ r. ⌜ r ≡ linkFits size link ⌝ }
 {
-    (l.timeslot < size) & (in_two_bytes(l.offset) & in_one_byte(l.options))
+    (link.timeslot < size) & (in_two_bytes(link.offset) & in_one_byte(link.options))
 }
 
-fn link_unused(l: Link) -> bool
-    ensures { λ r. ⌜ r ≡ linkUnused l ⌝ }
+fn link_unused(link: Link) -> bool
+    ensures { λ r. ⌜ r ≡ linkUnused link ⌝ }
 {
-    (l.timeslot == 0) & ((l.offset == 0) & (l.options == 0))
+    (link.timeslot == 0) & ((link.offset == 0) & (link.options == 0))
 }
 
 // A number of used places, and 16 for any over 16.
@@ -143,17 +143,17 @@ fn links_unused(links: [Link; 16], from: usize) -> bool
     ok
 }
 
-fn slotframe_fits(f: Slotframe) -> bool
-    ensures { λ r. ⌜ r ≡ slotframeFits f ⌝ }
+fn slotframe_fits(slotframe: Slotframe) -> bool
+    ensures { λ r. ⌜ r ≡ slotframeFits slotframe ⌝ }
 {
-    let links = f.links;
-    let used = at_most_16(f.count);
-    in_one_byte(f.handle)
-        & ((0 < f.size)
-            & (in_two_bytes(f.size)
-                & ((0 < f.count)
-                    & ((f.count < 17)
-                        & (links_fit(links, used, f.size) & links_unused(links, used))))))
+    let links = slotframe.links;
+    let used = at_most_16(slotframe.count);
+    in_one_byte(slotframe.handle)
+        & ((0 < slotframe.size)
+            & (in_two_bytes(slotframe.size)
+                & ((0 < slotframe.count)
+                    & ((slotframe.count < 17)
+                        & (links_fit(links, used, slotframe.size) & links_unused(links, used))))))
 }
 
 fn address_fits(proxied: bool, address: u64) -> bool
@@ -187,63 +187,65 @@ fn network_unused(network: [u8; 16], from: usize) -> bool
     network_below(network, from, 16, 1)
 }
 
-fn present_fits(j: JoiningInformation) -> bool
-    ensures { λ r. ⌜ r ≡ presentFits j ⌝ }
+fn present_fits(joining: JoiningInformation) -> bool
+    ensures { λ r. ⌜ r ≡ presentFits joining ⌝ }
 {
-    let network = j.network;
-    let used = at_most_16(j.length);
-    (j.proxy < 128)
-        & ((j.rank < 4096)
-            & (in_one_byte(j.pan)
-                & (address_fits(j.proxied, j.address)
-                    & ((j.length < 17)
+    let network = joining.network;
+    let used = at_most_16(joining.length);
+    (joining.proxy < 128)
+        & ((joining.rank < 4096)
+            & (in_one_byte(joining.pan)
+                & (address_fits(joining.proxied, joining.address)
+                    & ((joining.length < 17)
                         & (network_below(network, 0, used, 256) & network_unused(network, used))))))
 }
 
-fn absent_fits(j: JoiningInformation) -> bool
-    ensures { λ r. ⌜ r ≡ absentFits j ⌝ }
+fn absent_fits(joining: JoiningInformation) -> bool
+    ensures { λ r. ⌜ r ≡ absentFits joining ⌝ }
 {
-    let network = j.network;
-    !j.router
-        & (!j.proxied
-            & ((j.proxy == 0)
-                & ((j.rank == 0)
-                    & ((j.pan == 0)
-                        & ((j.address == 0) & ((j.length == 0) & network_unused(network, 0)))))))
+    let network = joining.network;
+    !joining.router
+        & (!joining.proxied
+            & ((joining.proxy == 0)
+                & ((joining.rank == 0)
+                    & ((joining.pan == 0)
+                        & ((joining.address == 0)
+                            & ((joining.length == 0) & network_unused(network, 0)))))))
 }
 
-fn joining_fits(j: JoiningInformation) -> bool
-    ensures { λ r. ⌜ r ≡ joiningFits j ⌝ }
+fn joining_fits(joining: JoiningInformation) -> bool
+    ensures { λ r. ⌜ r ≡ joiningFits joining ⌝ }
 {
-    if j.present {
-        return present_fits(j);
+    if joining.present {
+        return present_fits(joining);
     }
-    absent_fits(j)
+    absent_fits(joining)
 }
 
 // Whether a record is within the limits of writing.
 pub fn within_limits(b: Beacon) -> bool
     ensures { λ r. ⌜ r ≡ fits b ⌝ }
 {
-    let q = b.sequence;
-    let a = b.source;
-    let y = b.synchronization;
-    let t = b.timeslot;
-    let f = b.slotframe;
-    let j = b.joining;
-    sequence_fits(q)
+    let sequence = b.sequence;
+    let source = b.source;
+    let synchronization = b.synchronization;
+    let template = b.timeslot;
+    let slotframe = b.slotframe;
+    let joining = b.joining;
+    sequence_fits(sequence)
         & (in_two_bytes(b.pan)
-            & (source_fits(a)
-                & (synchronization_fits(y)
-                    & (template_fits(t)
-                        & (in_one_byte(b.hopping) & (slotframe_fits(f) & joining_fits(j)))))))
+            & (source_fits(source)
+                & (synchronization_fits(synchronization)
+                    & (template_fits(template)
+                        & (in_one_byte(b.hopping)
+                            & (slotframe_fits(slotframe) & joining_fits(joining)))))))
 }
 
 // The bytes of a sequence number.
-pub fn sequence_size(q: SequenceNumber) -> usize
-    ensures { λ r. ⌜ (r ≡ length (sequenceBytes q)) × (r ≤ 1) ⌝ }
+pub fn sequence_size(sequence: SequenceNumber) -> usize
+    ensures { λ r. ⌜ (r ≡ length (sequenceBytes sequence)) × (r ≤ 1) ⌝ }
 {
-    match q {
+    match sequence {
         SequenceNumber::Absent => {
             return 0;
         }
@@ -254,10 +256,10 @@ pub fn sequence_size(q: SequenceNumber) -> usize
 }
 
 // The bytes of a source address.
-pub fn source_size(a: Address) -> usize
-    ensures { λ r. ⌜ (r ≡ length (sourceBytes a)) × (r ≤ 8) ⌝ }
+pub fn source_size(source: Address) -> usize
+    ensures { λ r. ⌜ (r ≡ length (sourceBytes source)) × (r ≤ 8) ⌝ }
 {
-    match a {
+    match source {
         Address::Short(_) => {
             return 2;
         }
@@ -281,39 +283,39 @@ pub fn last_width(timings: [u32; 12]) -> u8
 }
 
 // The bytes of a timeslot element behind its descriptor.
-pub fn template_size(t: TimeslotTemplate) -> usize
-    ensures { λ r. ⌜ (r ≡ templateSize t) × (r ≤ 27) ⌝ }
+pub fn template_size(template: TimeslotTemplate) -> usize
+    ensures { λ r. ⌜ (r ≡ templateSize template) × (r ≤ 27) ⌝ }
 {
-    let timings = t.timings;
-    if t.timed {
+    let timings = template.timings;
+    if template.timed {
         return 21 + 2 * last_width(timings) as usize;
     }
     1
 }
 
 // The bytes of the MLME group behind its descriptor, with a timeslot element and so many links.
-pub fn group_size(t: TimeslotTemplate, count: u8) -> usize
-    ensures { λ r. ⌜ (r ≡ 8 + (2 + templateSize t) + 3 + (7 + 5 * count)) × (r ≤ 1322) ⌝ }
+pub fn group_size(template: TimeslotTemplate, count: u8) -> usize
+    ensures { λ r. ⌜ (r ≡ 8 + (2 + templateSize template) + 3 + (7 + 5 * count)) × (r ≤ 1322) ⌝ }
 {
-    8 + (2 + template_size(t)) + 3 + (7 + 5 * count as usize)
+    8 + (2 + template_size(template)) + 3 + (7 + 5 * count as usize)
 }
 
 // The bytes of joining information behind its descriptor.
-pub fn joining_size(j: JoiningInformation) -> usize
-    ensures { λ r. ⌜ (r ≡ joiningSize j) × (r ≤ 268) ⌝ }
+pub fn joining_size(joining: JoiningInformation) -> usize
+    ensures { λ r. ⌜ (r ≡ joiningSize joining) × (r ≤ 268) ⌝ }
 {
-    if j.proxied {
-        return 13 + j.length as usize;
+    if joining.proxied {
+        return 13 + joining.length as usize;
     }
-    5 + j.length as usize
+    5 + joining.length as usize
 }
 
 // The bytes of joining information with its descriptor, none if it is absent.
-fn joining_part(j: JoiningInformation) -> usize
-    ensures { λ r. ⌜ (r ≡ ifOn (j .present) (2 + joiningSize j) 0) × (r ≤ 270) ⌝ }
+fn joining_part(joining: JoiningInformation) -> usize
+    ensures { λ r. ⌜ (r ≡ ifOn (joining .present) (2 + joiningSize joining) 0) × (r ≤ 270) ⌝ }
 {
-    if j.present {
-        return 2 + joining_size(j);
+    if joining.present {
+        return 2 + joining_size(joining);
     }
     0
 }
@@ -323,10 +325,14 @@ pub fn frame_length(b: Beacon) -> usize
     ensures formula { λ r. ⌜ r ≡ frameLength b ⌝ }
     ensures frame { λ r. ⌜ (fits b ≡ true → r ≡ length (frameOf b)) ⌝ }
 {
-    let q = b.sequence;
-    let a = b.source;
-    let t = b.timeslot;
-    let f = b.slotframe;
-    let j = b.joining;
-    8 + sequence_size(q) + source_size(a) + (2 + group_size(t, f.count)) + joining_part(j)
+    let sequence = b.sequence;
+    let source = b.source;
+    let template = b.timeslot;
+    let slotframe = b.slotframe;
+    let joining = b.joining;
+    8
+        + sequence_size(sequence)
+        + source_size(source)
+        + (2 + group_size(template, slotframe.count))
+        + joining_part(joining)
 }

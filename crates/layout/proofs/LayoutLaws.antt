@@ -6,7 +6,8 @@ use mathlib.Core.List.{List, [], _∷_, _++_}
 use mathlib.Core.Logic.{inl, inr}
 use native.Mathlib.Omega.{arith}
 use lib.Dec.{eqb, lit≤}
-use lib.ListN.{length, getD, set, replicate}
+use lib.ListN.{length, getD, set, drop, replicate, drop-of-length-le}
+use lib.Seq.{drop-cons}
 use Rattle.octets.specs.Choice.{ifEq}
 use Rattle.octets.specs.Number.{leAt, beAt}
 use Rattle.octets.specs.Counted.{counted, padded}
@@ -120,14 +121,29 @@ module _ (s : List ℕ) where
     pub required-inside : (w .synchronization + 6 ≤ length s) × (w .timeslot < length s) × (w .timeslot ≤ w .timeslotend) × (w .hopping < length s) × (w .slotframe + 5 ≤ length s)
     required-inside = let some : 0 < w .timeslotend - w .timeslot = timeslot-some _ (inside .timeslot) in (inside .synchronization, omega (arith, inside .timeslotend), omega arith, inside .hopping, omega (arith, inside .slotframe))
 
-  pub numbers-are : (w : Walk) (opening elements joining : List ℕ) → opening ≡ openingNumbers (openingOf s .sequence) (openingOf s .pan) (openingOf s .source)
+  pub numbers-are : (w : Walk) (opening elements joining r : List ℕ) → r ≡ opening ++ (elements ++ joining) → opening ≡ openingNumbers (openingOf s .sequence) (openingOf s .pan) (openingOf s .source)
       → elements ≡ elementNumbers (synchronizationAt s (w .synchronization)) (templateAt s (w .timeslot) (w .timeslotend - w .timeslot)) (getD s (w .hopping) 0) (slotframeAt s (w .slotframe))
-      → joining ≡ joiningNumbers (joiningAt s (w .joining) (w .joiningend))
-      → getD opening 0 0 ∷ getD opening 1 0 ∷ getD opening 2 0 ∷ getD opening 3 0 ∷ getD opening 4 0
-      ∷ getD elements 0 0 ∷ getD elements 1 0 ∷ getD elements 2 0 ∷ getD elements 3 0 ∷ getD elements 4 0 ∷ getD elements 5 0 ∷ getD elements 6 0 ∷ getD elements 7 0
-      ∷ getD joining 0 0 ∷ getD joining 1 0 ∷ getD joining 2 0 ∷ getD joining 3 0 ∷ getD joining 4 0 ∷ getD joining 5 0 ∷ getD joining 6 0 ∷ getD joining 7 0 ∷ []
-      ≡ numbersOf (decoded s w)
-  unfolding numbersOf decoded openingNumbers elementNumbers joiningNumbers
-  numbers-are w opening elements joining e f g = rw (e, f, g) refl
+      → joining ≡ joiningNumbers (joiningAt s (w .joining) (w .joiningend)) → r ≡ numbersOf (decoded s w)
+  unfolding numbersOf decoded
+  numbers-are w opening elements joining r is e f g = is ∙ rw (e, f, g)
 
-pub ruleset laying = (choices, source-low, opening-is, source-wide, elements-are, joining-none, joining-are, joining-there, required-inside, numbers-are)
+-- the entries of a list from a place on
+abbrev entries : List ℕ → ℕ → ℕ → List ℕ
+entries l i zero = []
+entries l i (suc n) = getD l i 0 ∷ entries l (suc i) n
+
+entries-all : (l : List ℕ) (i n : ℕ) → length l ≡ i + n → entries l i n ≡ drop i l
+entries-all l i zero h = sym (drop-of-length-le l {i = i} (omega arith))
+entries-all l i (suc n) h = rw (entries-all l (suc i) n (omega arith)) (sym (drop-cons l i 0 (omega arith)))
+
+glue : (a b c x y z : List ℕ) → a ≡ x → b ≡ y → c ≡ z → a ++ (b ++ c) ≡ x ++ (y ++ z)
+glue a b c x y z e f g = rw (e, f, g)
+
+pub joined-are : (opening elements joining : List ℕ) → length opening ≡ 5 → length elements ≡ 8 → length joining ≡ 8
+    → getD opening 0 0 ∷ getD opening 1 0 ∷ getD opening 2 0 ∷ getD opening 3 0 ∷ getD opening 4 0
+    ∷ getD elements 0 0 ∷ getD elements 1 0 ∷ getD elements 2 0 ∷ getD elements 3 0 ∷ getD elements 4 0 ∷ getD elements 5 0 ∷ getD elements 6 0 ∷ getD elements 7 0
+    ∷ getD joining 0 0 ∷ getD joining 1 0 ∷ getD joining 2 0 ∷ getD joining 3 0 ∷ getD joining 4 0 ∷ getD joining 5 0 ∷ getD joining 6 0 ∷ getD joining 7 0 ∷ []
+    ≡ opening ++ (elements ++ joining)
+joined-are opening elements joining five eight last = glue _ _ _ _ _ _ (entries-all opening 0 5 five) (entries-all elements 0 8 eight) (entries-all joining 0 8 last)
+
+pub ruleset laying = (choices, source-low, opening-is, source-wide, elements-are, joining-none, joining-are, joining-there, required-inside, numbers-are, joined-are)

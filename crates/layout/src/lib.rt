@@ -6,7 +6,7 @@ ghost use Rattle.layout.specs.Layout.{LaidOut};
 
 mod arrays;
 mod fixed;
-mod numbers;
+pub mod numbers;
 
 // Reads a frame into lent arrays, and gives its number.
 pub fn read_into(

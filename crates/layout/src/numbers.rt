@@ -1,6 +1,7 @@
 // The numbers of an accepted frame: each is decoded straight into its place, without a branch on what a frame happens to hold where
 // that can be.
 ghost use mathlib.Core.Path.{_≡_};
+ghost use mathlib.Core.List.{_++_};
 ghost use Prim.Native.Nat.{_+_, _*_, _-_, _%_, _≤_, _<_};
 ghost use lib.ListN.{length, getD};
 ghost use Rattle.octets.specs.Choice.{ifEq};
@@ -117,7 +118,17 @@ pub(crate) fn numbers_at(s: &[u8], w: Walk) -> [u64; 21]
         w.hopping,
         w.slotframe,
     );
-    let joining = joining_numbers(s, w.joining, w.joiningend);
+    joined(
+        opening,
+        elements,
+        joining_numbers(s, w.joining, w.joiningend),
+    )
+}
+
+// The three parts of a record's numbers, one behind the other.
+pub fn joined(opening: [u64; 5], elements: [u64; 8], joining: [u64; 8]) -> [u64; 21]
+    ensures { λ r. ⌜ r ≡ opening ++ (elements ++ joining) ⌝ }
+{
     [
         opening[0],
         opening[1],

@@ -66,13 +66,9 @@ pub joining-laid : (j : JoiningInformation) (present router proxied : ℕ) → p
 unfolding joiningNumbers
 joining-laid j present router proxied e f g = rw (e, f, g)
 
-pub numbers-laid : (b : Beacon) (opening elements joining : List ℕ) → opening ≡ openingNumbers (b .sequence) (b .pan) (b .source)
-    → elements ≡ elementNumbers (b .synchronization) (b .timeslot) (b .hopping) (b .slotframe) → joining ≡ joiningNumbers (b .joining)
-    → getD opening 0 0 ∷ getD opening 1 0 ∷ getD opening 2 0 ∷ getD opening 3 0 ∷ getD opening 4 0
-    ∷ getD elements 0 0 ∷ getD elements 1 0 ∷ getD elements 2 0 ∷ getD elements 3 0 ∷ getD elements 4 0 ∷ getD elements 5 0 ∷ getD elements 6 0 ∷ getD elements 7 0
-    ∷ getD joining 0 0 ∷ getD joining 1 0 ∷ getD joining 2 0 ∷ getD joining 3 0 ∷ getD joining 4 0 ∷ getD joining 5 0 ∷ getD joining 6 0 ∷ getD joining 7 0 ∷ []
-    ≡ numbersOf b
-unfolding numbersOf openingNumbers elementNumbers joiningNumbers
-numbers-laid b opening elements joining e f g = rw (e, f, g) refl
+pub numbers-laid : (b : Beacon) (opening elements joining r : List ℕ) → r ≡ opening ++ (elements ++ joining) → opening ≡ openingNumbers (b .sequence) (b .pan) (b .source)
+    → elements ≡ elementNumbers (b .synchronization) (b .timeslot) (b .hopping) (b .slotframe) → joining ≡ joiningNumbers (b .joining) → r ≡ numbersOf b
+unfolding numbersOf
+numbers-laid b opening elements joining r is e f g = is ∙ rw (e, f, g)
 
 pub ruleset laying = (lay-begins, lay-turn, lay-ends, opening-laid, elements-laid, joining-laid, numbers-laid)

@@ -10,37 +10,37 @@ use beacon::Slotframe;
 use beacon::Synchronization;
 use beacon::TimeslotTemplate;
 
-fn sequence_present(q: SequenceNumber) -> u64
-    ensures { λ r. ⌜ r ≡ sequencePresent q ⌝ }
+fn sequence_present(sequence: SequenceNumber) -> u64
+    ensures { λ r. ⌜ r ≡ sequencePresent sequence ⌝ }
 {
-    match q {
+    match sequence {
         SequenceNumber::Absent => 0,
         SequenceNumber::Number(_) => 1,
     }
 }
 
-fn sequence_number(q: SequenceNumber) -> u64
-    ensures { λ r. ⌜ r ≡ sequenceNumber q ⌝ }
+fn sequence_number(sequence: SequenceNumber) -> u64
+    ensures { λ r. ⌜ r ≡ sequenceNumber sequence ⌝ }
 {
-    match q {
+    match sequence {
         SequenceNumber::Absent => 0,
         SequenceNumber::Number(n) => n as u64,
     }
 }
 
-fn source_kind(a: Address) -> u64
-    ensures { λ r. ⌜ r ≡ sourceKind a ⌝ }
+fn source_kind(source: Address) -> u64
+    ensures { λ r. ⌜ r ≡ sourceKind source ⌝ }
 {
-    match a {
+    match source {
         Address::Short(_) => 0,
         Address::Extended(_) => 1,
     }
 }
 
-fn source_address(a: Address) -> u64
-    ensures { λ r. ⌜ r ≡ sourceAddress a ⌝ }
+fn source_address(source: Address) -> u64
+    ensures { λ r. ⌜ r ≡ sourceAddress source ⌝ }
 {
-    match a {
+    match source {
         Address::Short(n) => n as u64,
         Address::Extended(n) => n,
     }
@@ -55,45 +55,50 @@ fn bit_of(b: bool) -> u64
     0
 }
 
-fn opening_numbers(q: SequenceNumber, pan: u16, a: Address) -> [u64; 5]
-    ensures { λ r. ⌜ r ≡ openingNumbers q pan a ⌝ }
+fn opening_numbers(sequence: SequenceNumber, pan: u16, source: Address) -> [u64; 5]
+    ensures { λ r. ⌜ r ≡ openingNumbers sequence pan source ⌝ }
 {
     [
-        sequence_present(q),
-        sequence_number(q),
+        sequence_present(sequence),
+        sequence_number(sequence),
         pan as u64,
-        source_kind(a),
-        source_address(a),
+        source_kind(source),
+        source_address(source),
     ]
 }
 
-fn element_numbers(y: Synchronization, t: TimeslotTemplate, hopping: u8, f: Slotframe) -> [u64; 8]
-    ensures { λ r. ⌜ r ≡ elementNumbers y t hopping f ⌝ }
+fn element_numbers(
+    synchronization: Synchronization,
+    template: TimeslotTemplate,
+    hopping: u8,
+    slotframe: Slotframe,
+) -> [u64; 8]
+    ensures { λ r. ⌜ r ≡ elementNumbers synchronization template hopping slotframe ⌝ }
 {
     [
-        y.asn,
-        y.metric as u64,
-        t.id as u64,
-        bit_of(t.timed),
+        synchronization.asn,
+        synchronization.metric as u64,
+        template.id as u64,
+        bit_of(template.timed),
         hopping as u64,
-        f.handle as u64,
-        f.size as u64,
-        f.count as u64,
+        slotframe.handle as u64,
+        slotframe.size as u64,
+        slotframe.count as u64,
     ]
 }
 
-fn joining_numbers(j: JoiningInformation) -> [u64; 8]
-    ensures { λ r. ⌜ r ≡ joiningNumbers j ⌝ }
+fn joining_numbers(joining: JoiningInformation) -> [u64; 8]
+    ensures { λ r. ⌜ r ≡ joiningNumbers joining ⌝ }
 {
     [
-        bit_of(j.present),
-        bit_of(j.router),
-        bit_of(j.proxied),
-        j.proxy as u64,
-        j.rank as u64,
-        j.pan as u64,
-        j.address,
-        j.length as u64,
+        bit_of(joining.present),
+        bit_of(joining.router),
+        bit_of(joining.proxied),
+        joining.proxy as u64,
+        joining.rank as u64,
+        joining.pan as u64,
+        joining.address,
+        joining.length as u64,
     ]
 }
 
@@ -101,38 +106,17 @@ fn joining_numbers(j: JoiningInformation) -> [u64; 8]
 pub(crate) fn numbers_of(b: Beacon) -> [u64; 21]
     ensures { λ r. ⌜ r ≡ numbersOf b ⌝ }
 {
-    let q = b.sequence;
-    let a = b.source;
-    let y = b.synchronization;
-    let t = b.timeslot;
-    let f = b.slotframe;
-    let j = b.joining;
-    let opening = opening_numbers(q, b.pan, a);
-    let elements = element_numbers(y, t, b.hopping, f);
-    let joining = joining_numbers(j);
-    [
-        opening[0],
-        opening[1],
-        opening[2],
-        opening[3],
-        opening[4],
-        elements[0],
-        elements[1],
-        elements[2],
-        elements[3],
-        elements[4],
-        elements[5],
-        elements[6],
-        elements[7],
-        joining[0],
-        joining[1],
-        joining[2],
-        joining[3],
-        joining[4],
-        joining[5],
-        joining[6],
-        joining[7],
-    ]
+    let sequence = b.sequence;
+    let source = b.source;
+    let synchronization = b.synchronization;
+    let template = b.timeslot;
+    let slotframe = b.slotframe;
+    let joining = b.joining;
+    layout::numbers::joined(
+        opening_numbers(sequence, b.pan, source),
+        element_numbers(synchronization, template, b.hopping, slotframe),
+        joining_numbers(joining),
+    )
 }
 
 // Three numbers for each link.

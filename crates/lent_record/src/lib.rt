@@ -167,8 +167,8 @@ fn same_links(xs: [u16; 48], ys: [u16; 48]) -> bool
 pub fn is_laid_out(b: Beacon, numbers: &[u64; 21], links: &[u16; 48]) -> bool
     ensures { λ r. ⌜ r ≡ laidOutBy b (now (numbers .entry)) (now (links .entry)) ⌝ }
 {
-    let f = b.slotframe;
-    let all = f.links;
+    let slotframe = b.slotframe;
+    let all = slotframe.links;
     let given = *numbers;
     let lent = *links;
     same_numbers(given, flatten::numbers_of(b)) & same_links(lent, flatten::link_numbers(all))

@@ -12,15 +12,15 @@ use beacon::Synchronization;
 use beacon::TimeslotTemplate;
 
 // The synchronization element.
-fn put_synchronization(room: &mut [u8], at: usize, y: Synchronization)
-    ensures { λ _. ⌜ now (room .exit) ≡ stored (now (room .entry)) at (synchronizationBytes y) ⌝ }
+fn put_synchronization(room: &mut [u8], at: usize, synchronization: Synchronization)
+    ensures { λ _. ⌜ now (room .exit) ≡ stored (now (room .entry)) at (synchronizationBytes synchronization) ⌝ }
 {
     if room.len() <= at {
         return;
     }
     octets::put_le(room, at, 2, 6662);
-    octets::put_le(room, at + 2, 5, y.asn);
-    octets::put_le(room, at + 7, 1, y.metric as u64);
+    octets::put_le(room, at + 2, 5, synchronization.asn);
+    octets::put_le(room, at + 7, 1, synchronization.metric as u64);
 }
 
 // The first ten timings, two bytes each.
@@ -60,17 +60,17 @@ fn put_timings(room: &mut [u8], at: usize, timings: [u32; 12])
 }
 
 // The timeslot element.
-fn put_template(room: &mut [u8], at: usize, t: TimeslotTemplate)
-    ensures { λ _. ⌜ now (room .exit) ≡ stored (now (room .entry)) at (templateBytes t) ⌝ }
+fn put_template(room: &mut [u8], at: usize, template: TimeslotTemplate)
+    ensures { λ _. ⌜ now (room .exit) ≡ stored (now (room .entry)) at (templateBytes template) ⌝ }
 {
     if room.len() <= at {
         return;
     }
-    let timings = t.timings;
-    let size = frame::template_size(t);
+    let timings = template.timings;
+    let size = frame::template_size(template);
     octets::put_le(room, at, 2, size as u64 + 7168);
-    octets::put_le(room, at + 2, 1, t.id as u64);
-    if t.timed {
+    octets::put_le(room, at + 2, 1, template.id as u64);
+    if template.timed {
         put_timings(room, at + 3, timings);
         return;
     }
@@ -87,15 +87,15 @@ fn put_hopping(room: &mut [u8], at: usize, id: u8)
     octets::put_le(room, at + 2, 1, id as u64);
 }
 
-fn put_link(room: &mut [u8], at: usize, l: Link)
-    ensures { λ _. ⌜ now (room .exit) ≡ stored (now (room .entry)) at (linkBytes l) ⌝ }
+fn put_link(room: &mut [u8], at: usize, link: Link)
+    ensures { λ _. ⌜ now (room .exit) ≡ stored (now (room .entry)) at (linkBytes link) ⌝ }
 {
     if room.len() <= at {
         return;
     }
-    octets::put_le(room, at, 2, l.timeslot as u64);
-    octets::put_le(room, at + 2, 2, l.offset as u64);
-    octets::put_le(room, at + 4, 1, l.options as u64);
+    octets::put_le(room, at, 2, link.timeslot as u64);
+    octets::put_le(room, at + 2, 2, link.offset as u64);
+    octets::put_le(room, at + 4, 1, link.options as u64);
 }
 
 fn put_links(room: &mut [u8], at: usize, links: [Link; 16], used: usize)
@@ -125,68 +125,74 @@ fn put_slotframe_start(room: &mut [u8], at: usize, handle: u8, count: u8)
 }
 
 // The rest of the slotframe element: size, number of links, links.
-fn put_slotframe_rest(room: &mut [u8], at: usize, f: Slotframe)
-    ensures { λ _. ⌜ now (room .exit) ≡ stored (now (room .entry)) at (leBytes 2 (f .size) ++ (leBytes 1 (f .count) ++ linksBytes (take (f .count) (f .links)))) ⌝ }
+fn put_slotframe_rest(room: &mut [u8], at: usize, slotframe: Slotframe)
+    ensures { λ _. ⌜ now (room .exit) ≡ stored (now (room .entry)) at (leBytes 2 (slotframe .size) ++ (leBytes 1 (slotframe .count) ++ linksBytes (take (slotframe .count) (slotframe .links)))) ⌝ }
 {
     if room.len() <= at {
         return;
     }
-    let links = f.links;
-    octets::put_le(room, at, 2, f.size as u64);
-    octets::put_le(room, at + 2, 1, f.count as u64);
-    put_links(room, at + 3, links, frame::at_most_16(f.count));
+    let links = slotframe.links;
+    octets::put_le(room, at, 2, slotframe.size as u64);
+    octets::put_le(room, at + 2, 1, slotframe.count as u64);
+    put_links(room, at + 3, links, frame::at_most_16(slotframe.count));
 }
 
 // The slotframe and link element.
-fn put_slotframe(room: &mut [u8], at: usize, f: Slotframe)
-    ensures { λ _. ⌜ now (room .exit) ≡ stored (now (room .entry)) at (slotframeBytes f) ⌝ }
+fn put_slotframe(room: &mut [u8], at: usize, slotframe: Slotframe)
+    ensures { λ _. ⌜ now (room .exit) ≡ stored (now (room .entry)) at (slotframeBytes slotframe) ⌝ }
 {
     if room.len() <= at {
         return;
     }
-    put_slotframe_start(room, at, f.handle, f.count);
-    put_slotframe_rest(room, at + 4, f);
+    put_slotframe_start(room, at, slotframe.handle, slotframe.count);
+    put_slotframe_rest(room, at + 4, slotframe);
 }
 
 // The start of the MLME group: descriptor, synchronization, timeslot.
-fn put_group_start(room: &mut [u8], at: usize, y: Synchronization, t: TimeslotTemplate, count: u8)
-    ensures { λ _. ⌜ now (room .exit) ≡ stored (now (room .entry)) at (groupDescriptor 1 (groupPartSize t count) ++ (synchronizationBytes y ++ templateBytes t)) ⌝ }
+fn put_group_start(
+    room: &mut [u8],
+    at: usize,
+    synchronization: Synchronization,
+    template: TimeslotTemplate,
+    count: u8,
+)
+    ensures { λ _. ⌜ now (room .exit) ≡ stored (now (room .entry)) at (groupDescriptor 1 (groupPartSize template count) ++ (synchronizationBytes synchronization ++ templateBytes template)) ⌝ }
 {
     if room.len() <= at {
         return;
     }
-    let size = frame::group_size(t, count);
+    let size = frame::group_size(template, count);
     octets::put_le(room, at, 2, size as u64 + 2048 + 32768);
-    put_synchronization(room, at + 2, y);
-    put_template(room, at + 10, t);
+    put_synchronization(room, at + 2, synchronization);
+    put_template(room, at + 10, template);
 }
 
 // The rest of the MLME group: hopping, slotframe.
-fn put_group_rest(room: &mut [u8], at: usize, hopping: u8, f: Slotframe)
-    ensures { λ _. ⌜ now (room .exit) ≡ stored (now (room .entry)) at (hoppingBytes hopping ++ slotframeBytes f) ⌝ }
+fn put_group_rest(room: &mut [u8], at: usize, hopping: u8, slotframe: Slotframe)
+    ensures { λ _. ⌜ now (room .exit) ≡ stored (now (room .entry)) at (hoppingBytes hopping ++ slotframeBytes slotframe) ⌝ }
 {
     if room.len() <= at {
         return;
     }
     put_hopping(room, at, hopping);
-    put_slotframe(room, at + 3, f);
+    put_slotframe(room, at + 3, slotframe);
 }
 
 // The MLME group.
 pub fn put_group(
     room: &mut [u8],
     at: usize,
-    y: Synchronization,
-    t: TimeslotTemplate,
+    synchronization: Synchronization,
+    template: TimeslotTemplate,
     hopping: u8,
-    f: Slotframe,
+    slotframe: Slotframe,
 )
-    ensures { λ _. ⌜ now (room .exit) ≡ stored (now (room .entry)) at (groupPart y t hopping f) ⌝ }
+    ensures { λ _. ⌜ now (room .exit) ≡ stored (now (room .entry)) at (groupPart synchronization template hopping slotframe) ⌝ }
 {
     if room.len() <= at {
         return;
     }
-    let size = frame::template_size(t);
-    put_group_start(room, at, y, t, f.count);
-    put_group_rest(room, at + (12 + size), hopping, f);
+    let size = frame::template_size(template);
+    put_group_start(room, at, synchronization, template, slotframe.count);
+    put_group_rest(room, at + (12 + size), hopping, slotframe);
 }

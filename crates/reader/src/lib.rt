@@ -106,18 +106,12 @@ pub fn examine(s: &[u8]) -> Examination
 fn blank_walk() -> Walk
     ensures { λ r. ⌜ r ≡ blankWalk ⌝ }
 {
-    Walk {
+    headed_walk(Headed {
         fault: 0,
         faulty: 0,
         skipped: 0,
-        synchronization: 0,
-        timeslot: 0,
-        timeslotend: 0,
-        hopping: 0,
-        slotframe: 0,
-        joining: 0,
-        joiningend: 0,
-    }
+        payload: 0,
+    })
 }
 
 fn elements_place(s: &[u8]) -> usize

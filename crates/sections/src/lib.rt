@@ -12,10 +12,10 @@ use beacon::Address;
 use beacon::JoiningInformation;
 use beacon::SequenceNumber;
 
-fn suppressed_bit(q: SequenceNumber) -> u64
-    ensures { λ r. ⌜ (r ≡ suppressedBit q) × (r ≤ 1) ⌝ }
+fn suppressed_bit(sequence: SequenceNumber) -> u64
+    ensures { λ r. ⌜ (r ≡ suppressedBit sequence) × (r ≤ 1) ⌝ }
 {
-    match q {
+    match sequence {
         SequenceNumber::Absent => {
             return 1;
         }
@@ -25,10 +25,10 @@ fn suppressed_bit(q: SequenceNumber) -> u64
     }
 }
 
-fn source_mode(a: Address) -> u64
-    ensures { λ r. ⌜ (r ≡ sourceMode a) × (r ≤ 3) ⌝ }
+fn source_mode(source: Address) -> u64
+    ensures { λ r. ⌜ (r ≡ sourceMode source) × (r ≤ 3) ⌝ }
 {
-    match a {
+    match source {
         Address::Short(_) => {
             return 2;
         }
@@ -38,16 +38,16 @@ fn source_mode(a: Address) -> u64
     }
 }
 
-fn control_word(q: SequenceNumber, a: Address) -> u64
-    ensures { λ r. ⌜ r ≡ controlWord q a ⌝ }
+fn control_word(sequence: SequenceNumber, source: Address) -> u64
+    ensures { λ r. ⌜ r ≡ controlWord sequence source ⌝ }
 {
-    64 + suppressed_bit(q) * 256 + 512 + 2048 + 8192 + source_mode(a) * 16384
+    64 + suppressed_bit(sequence) * 256 + 512 + 2048 + 8192 + source_mode(source) * 16384
 }
 
-fn put_sequence(room: &mut [u8], at: usize, q: SequenceNumber)
-    ensures { λ _. ⌜ now (room .exit) ≡ stored (now (room .entry)) at (sequenceBytes q) ⌝ }
+fn put_sequence(room: &mut [u8], at: usize, sequence: SequenceNumber)
+    ensures { λ _. ⌜ now (room .exit) ≡ stored (now (room .entry)) at (sequenceBytes sequence) ⌝ }
 {
-    match q {
+    match sequence {
         SequenceNumber::Absent => {
             return;
         }
@@ -58,10 +58,10 @@ fn put_sequence(room: &mut [u8], at: usize, q: SequenceNumber)
     }
 }
 
-fn put_source(room: &mut [u8], at: usize, a: Address)
-    ensures { λ _. ⌜ now (room .exit) ≡ stored (now (room .entry)) at (sourceBytes a) ⌝ }
+fn put_source(room: &mut [u8], at: usize, source: Address)
+    ensures { λ _. ⌜ now (room .exit) ≡ stored (now (room .entry)) at (sourceBytes source) ⌝ }
 {
-    match a {
+    match source {
         Address::Short(n) => {
             octets::put_le(room, at, 2, n as u64);
             return;
@@ -74,35 +74,35 @@ fn put_source(room: &mut [u8], at: usize, a: Address)
 }
 
 // The destination PAN, the destination FF FF and the source.
-fn put_addresses(room: &mut [u8], at: usize, pan: u16, a: Address)
-    ensures { λ _. ⌜ now (room .exit) ≡ stored (now (room .entry)) at (leBytes 2 pan ++ (leBytes 2 65535 ++ sourceBytes a)) ⌝ }
+fn put_addresses(room: &mut [u8], at: usize, pan: u16, source: Address)
+    ensures { λ _. ⌜ now (room .exit) ≡ stored (now (room .entry)) at (leBytes 2 pan ++ (leBytes 2 65535 ++ sourceBytes source)) ⌝ }
 {
     if room.len() <= at {
         return;
     }
     octets::put_le(room, at, 2, pan as u64);
     octets::put_le(room, at + 2, 2, 65535);
-    put_source(room, at + 4, a);
+    put_source(room, at + 4, source);
 }
 
 // Frame control and the fixed fields, at the room's start.
-pub fn put_opening(room: &mut [u8], q: SequenceNumber, pan: u16, a: Address)
-    ensures { λ _. ⌜ now (room .exit) ≡ stored (now (room .entry)) 0 (openingPart q pan a) ⌝ }
+pub fn put_opening(room: &mut [u8], sequence: SequenceNumber, pan: u16, source: Address)
+    ensures { λ _. ⌜ now (room .exit) ≡ stored (now (room .entry)) 0 (openingPart sequence pan source) ⌝ }
 {
-    octets::put_le(room, 0, 2, control_word(q, a));
-    put_sequence(room, 2, q);
-    put_addresses(room, 2 + frame::sequence_size(q), pan, a);
+    octets::put_le(room, 0, 2, control_word(sequence, source));
+    put_sequence(room, 2, sequence);
+    put_addresses(room, 2 + frame::sequence_size(sequence), pan, source);
 }
 
 // The flags and priorities of joining information.
-fn joining_word(j: JoiningInformation) -> u64
-    ensures { λ r. ⌜ r ≡ joiningWord j ⌝ }
+fn joining_word(joining: JoiningInformation) -> u64
+    ensures { λ r. ⌜ r ≡ joiningWord joining ⌝ }
 {
-    flag_of(j.router) * 2147483648
-        + flag_of(j.proxied) * 1073741824
-        + j.proxy as u64 * 1048576
-        + j.rank as u64 * 256
-        + j.pan as u64
+    flag_of(joining.router) * 2147483648
+        + flag_of(joining.proxied) * 1073741824
+        + joining.proxy as u64 * 1048576
+        + joining.rank as u64 * 256
+        + joining.pan as u64
 }
 
 fn flag_of(b: bool) -> u64
@@ -136,16 +136,16 @@ fn put_network(room: &mut [u8], at: usize, network: [u8; 16], used: usize)
 }
 
 // The rest of joining information: the address if P is set, the network ID.
-fn put_joining_rest(room: &mut [u8], at: usize, j: JoiningInformation)
-    ensures { λ _. ⌜ now (room .exit) ≡ stored (now (room .entry)) at (ifOn (j .proxied) (beBytes 8 (j .address)) [] ++ take (j .length) (j .network)) ⌝ }
+fn put_joining_rest(room: &mut [u8], at: usize, joining: JoiningInformation)
+    ensures { λ _. ⌜ now (room .exit) ≡ stored (now (room .entry)) at (ifOn (joining .proxied) (beBytes 8 (joining .address)) [] ++ take (joining .length) (joining .network)) ⌝ }
 {
     if room.len() <= at {
         return;
     }
-    let network = j.network;
-    let used = frame::at_most_16(j.length);
-    if j.proxied {
-        octets::put_be(room, at, 8, j.address);
+    let network = joining.network;
+    let used = frame::at_most_16(joining.length);
+    if joining.proxied {
+        octets::put_be(room, at, 8, joining.address);
         put_network(room, at + 8, network, used);
         return;
     }
@@ -153,28 +153,28 @@ fn put_joining_rest(room: &mut [u8], at: usize, j: JoiningInformation)
 }
 
 // The start of joining information: descriptor, subtype, flags and priorities.
-fn put_joining_start(room: &mut [u8], at: usize, j: JoiningInformation)
-    ensures { λ _. ⌜ now (room .exit) ≡ stored (now (room .entry)) at (groupDescriptor 5 (joiningSize j) ++ (leBytes 1 2 ++ beBytes 4 (joiningWord j))) ⌝ }
+fn put_joining_start(room: &mut [u8], at: usize, joining: JoiningInformation)
+    ensures { λ _. ⌜ now (room .exit) ≡ stored (now (room .entry)) at (groupDescriptor 5 (joiningSize joining) ++ (leBytes 1 2 ++ beBytes 4 (joiningWord joining))) ⌝ }
 {
     if room.len() <= at {
         return;
     }
-    let size = frame::joining_size(j);
+    let size = frame::joining_size(joining);
     octets::put_le(room, at, 2, size as u64 + 10240 + 32768);
     octets::put_le(room, at + 2, 1, 2);
-    octets::put_be(room, at + 3, 4, joining_word(j));
+    octets::put_be(room, at + 3, 4, joining_word(joining));
 }
 
 // Joining information, if it is there.
-pub fn put_joining(room: &mut [u8], at: usize, j: JoiningInformation)
-    ensures { λ _. ⌜ now (room .exit) ≡ stored (now (room .entry)) at (joiningBytes j) ⌝ }
+pub fn put_joining(room: &mut [u8], at: usize, joining: JoiningInformation)
+    ensures { λ _. ⌜ now (room .exit) ≡ stored (now (room .entry)) at (joiningBytes joining) ⌝ }
 {
     if room.len() <= at {
         return;
     }
-    if j.present {
-        put_joining_start(room, at, j);
-        put_joining_rest(room, at + 7, j);
+    if joining.present {
+        put_joining_start(room, at, joining);
+        put_joining_rest(room, at + 7, joining);
         return;
     }
 }

@@ -28,22 +28,22 @@ pub struct Written {
 fn put_elements(
     room: &mut [u8],
     at: usize,
-    y: Synchronization,
-    t: TimeslotTemplate,
+    synchronization: Synchronization,
+    template: TimeslotTemplate,
     hopping: u8,
-    f: Slotframe,
-    j: JoiningInformation,
+    slotframe: Slotframe,
+    joining: JoiningInformation,
 )
-    requires { ⌜ f .count < 17 ⌝ }
-    ensures { λ _. ⌜ now (room .exit) ≡ stored (now (room .entry)) at (headerDescriptor 126 0 ++ (groupPart y t hopping f ++ joiningBytes j)) ⌝ }
+    requires { ⌜ slotframe .count < 17 ⌝ }
+    ensures { λ _. ⌜ now (room .exit) ≡ stored (now (room .entry)) at (headerDescriptor 126 0 ++ (groupPart synchronization template hopping slotframe ++ joiningBytes joining)) ⌝ }
 {
     if room.len() <= at {
         return;
     }
-    let size = frame::group_size(t, f.count);
+    let size = frame::group_size(template, slotframe.count);
     octets::put_le(room, at, 2, 16128);
-    mlme::put_group(room, at + 2, y, t, hopping, f);
-    sections::put_joining(room, at + (4 + size), j);
+    mlme::put_group(room, at + 2, synchronization, template, hopping, slotframe);
+    sections::put_joining(room, at + (4 + size), joining);
 }
 
 // The frame at the room's start.
@@ -51,15 +51,23 @@ fn put_frame(room: &mut [u8], b: Beacon)
     requires { ⌜ b .slotframe .count < 17 ⌝ }
     ensures { λ _. ⌜ now (room .exit) ≡ stored (now (room .entry)) 0 (frameOf b) ⌝ }
 {
-    let q = b.sequence;
-    let a = b.source;
-    let y = b.synchronization;
-    let t = b.timeslot;
-    let f = b.slotframe;
-    let j = b.joining;
-    let at = 6 + frame::sequence_size(q) + frame::source_size(a);
-    sections::put_opening(room, q, b.pan, a);
-    put_elements(room, at, y, t, b.hopping, f, j);
+    let sequence = b.sequence;
+    let source = b.source;
+    let synchronization = b.synchronization;
+    let template = b.timeslot;
+    let slotframe = b.slotframe;
+    let joining = b.joining;
+    let at = 6 + frame::sequence_size(sequence) + frame::source_size(source);
+    sections::put_opening(room, sequence, b.pan, source);
+    put_elements(
+        room,
+        at,
+        synchronization,
+        template,
+        b.hopping,
+        slotframe,
+        joining,
+    );
 }
 
 // Writes a record's frame at the start of a lent room.

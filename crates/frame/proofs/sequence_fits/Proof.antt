@@ -10,8 +10,8 @@ enum-told c = search needs
 returns : tie.Need-returns
 returns c = search (needs, limits)
 
-enum-known-q : tie.Need-enum-known-q
-enum-known-q c = search needs
+enum-known-sequence : tie.Need-enum-known-sequence
+enum-known-sequence c = search needs
 
 in-one-byte-requires : tie.Need-in-one-byte-requires
 in-one-byte-requires c κs = search needs
@@ -21,4 +21,4 @@ returns-2 c = search (needs, limits)
 
 pub sequence-fits-spec : {M : Type 1} → statement M
 sequence-fits-spec =
-    tie.close (tie.spec enum-told returns enum-known-q in-one-byte-requires returns-2)
+    tie.close (tie.spec enum-told returns enum-known-sequence in-one-byte-requires returns-2)

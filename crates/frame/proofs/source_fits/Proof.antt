@@ -4,8 +4,8 @@ use borrow.Author.Needs.{needs}
 use Rattle.frame.proofs.source_fits.Statement.{statement}
 use Rattle.frame.proofs.source_fits.Tie as tie
 
-enum-known-a : tie.Need-enum-known-a
-enum-known-a c = search needs
+enum-known-source : tie.Need-enum-known-source
+enum-known-source c = search needs
 
 in-two-bytes-requires : tie.Need-in-two-bytes-requires
 in-two-bytes-requires c κs = search needs
@@ -13,8 +13,8 @@ in-two-bytes-requires c κs = search needs
 returns : tie.Need-returns
 returns c = search (needs, limits)
 
-enum-known-a-2 : tie.Need-enum-known-a-2
-enum-known-a-2 c = search needs
+enum-known-source-2 : tie.Need-enum-known-source-2
+enum-known-source-2 c = search needs
 
 in-eight-bytes-requires : tie.Need-in-eight-bytes-requires
 in-eight-bytes-requires c κs = search needs
@@ -26,9 +26,9 @@ pub source-fits-spec : {M : Type 1} → statement M
 source-fits-spec =
     tie.close
     (tie.spec
-    enum-known-a
+    enum-known-source
     in-two-bytes-requires
     returns
-    enum-known-a-2
+    enum-known-source-2
     in-eight-bytes-requires
     returns-2)

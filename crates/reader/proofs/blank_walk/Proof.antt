@@ -1,11 +1,15 @@
 -- `reader::blank_walk` meets its contract. Assumes nothing.
+use Rattle.reader.specs.Read.{blankWalk}
 use borrow.Author.Needs.{needs}
-use Rattle.reader.proofs.ReadLaws.{reading}
 use Rattle.reader.proofs.blank_walk.Statement.{statement}
 use Rattle.reader.proofs.blank_walk.Tie as tie
 
+headed-walk-requires : tie.Need-headed-walk-requires
+headed-walk-requires c κs = search needs
+
 returns : tie.Need-returns
-returns c = search (needs, reading)
+unfolding blankWalk
+returns c = c .headed-walk .ensures
 
 pub blank-walk-spec : {M : Type 1} → statement M
-blank-walk-spec = tie.close (tie.spec returns)
+blank-walk-spec = tie.close (tie.spec headed-walk-requires returns)

@@ -1,7 +1,6 @@
 -- `reader::network_length` meets its contract. Assumes nothing.
 use mathlib.Core.Path.{ap}
 use lib.ListN.{length}
-use Rattle.reader.proofs.ReadLaws.{reading}
 use borrow.Author.Needs.{needs}
 use Rattle.reader.proofs.network_length.Statement.{statement}
 use Rattle.reader.proofs.network_length.Tie as tie

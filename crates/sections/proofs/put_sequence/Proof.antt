@@ -10,8 +10,8 @@ enum-told c = search needs
 returns : tie.Need-returns
 returns c = search (needs, parts)
 
-enum-known-q : tie.Need-enum-known-q
-enum-known-q c = search needs
+enum-known-sequence : tie.Need-enum-known-sequence
+enum-known-sequence c = search needs
 
 cast-put-le : tie.Need-cast-put-le
 cast-put-le c = search needs
@@ -28,4 +28,4 @@ returns-2 c = search (needs, parts)
 pub put-sequence-spec : {M : Type 1} → statement M
 put-sequence-spec =
     tie.close
-    (tie.spec enum-told returns enum-known-q cast-put-le put-le-requires same-length returns-2)
+    (tie.spec enum-told returns enum-known-sequence cast-put-le put-le-requires same-length returns-2)

@@ -4,8 +4,8 @@ use borrow.Author.Needs.{needs}
 use Rattle.sections.proofs.put_source.Statement.{statement}
 use Rattle.sections.proofs.put_source.Tie as tie
 
-enum-known-a : tie.Need-enum-known-a
-enum-known-a c = search needs
+enum-known-source : tie.Need-enum-known-source
+enum-known-source c = search needs
 
 cast-put-le : tie.Need-cast-put-le
 cast-put-le c = search needs
@@ -19,8 +19,8 @@ same-length c = search needs
 returns : tie.Need-returns
 returns c = search (needs, parts)
 
-enum-known-a-2 : tie.Need-enum-known-a-2
-enum-known-a-2 c = search needs
+enum-known-source-2 : tie.Need-enum-known-source-2
+enum-known-source-2 c = search needs
 
 put-le-requires-2 : tie.Need-put-le-requires-2
 put-le-requires-2 c κs = search needs
@@ -35,12 +35,12 @@ pub put-source-spec : {M : Type 1} → statement M
 put-source-spec =
     tie.close
     (tie.spec
-    enum-known-a
+    enum-known-source
     cast-put-le
     put-le-requires
     same-length
     returns
-    enum-known-a-2
+    enum-known-source-2
     put-le-requires-2
     same-length-2
     returns-2)

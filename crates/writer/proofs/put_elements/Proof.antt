@@ -35,10 +35,10 @@ same-length : tie.Need-same-length
 same-length c = search needs
 
 -- the arrays have their sizes
-twelve : (start : tie.Start) → length (start .args .t .timings) ≡ 12
+twelve : (start : tie.Start) → length (start .args .template .timings) ≡ 12
 twelve start = search needs
 
-sixteen : (start : tie.Start) → length (start .args .f .links) ≡ 16
+sixteen : (start : tie.Start) → length (start .args .slotframe .links) ≡ 16
 sixteen start = search (needs, length-mapped)
 
 returns-2 : tie.Need-returns-2
@@ -49,7 +49,7 @@ returns-2 c =
     let sized = ended .before .before in
     let start = sized .before .before .before in
     let a = start .args in
-    elements-put _ (a .at) _ _ _ (a .y) (a .t) (a .hopping) (a .f) (a .j) _ (twelve start) (sixteen start) (start .pre) (sized .group-size .ensures .0) (ended .put-le .ensures .0) (grouped .put-group .ensures) (joined .put-joining .ensures)
+    elements-put _ (a .at) _ _ _ (a .synchronization) (a .template) (a .hopping) (a .slotframe) (a .joining) _ (twelve start) (sixteen start) (start .pre) (sized .group-size .ensures .0) (ended .put-le .ensures .0) (grouped .put-group .ensures) (joined .put-joining .ensures)
 
 pub put-elements-spec : {M : Type 1} → statement M
 put-elements-spec =
