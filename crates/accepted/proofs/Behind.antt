@@ -12,7 +12,7 @@ use Rattle.elements.specs.declared.InnerStep.{InnerStep}
 use Rattle.elements.specs.declared.InnerStep.the-variants as inner
 use Rattle.walk.specs.Walk.{bump, headerGo, headerList}
 use Rattle.walk.specs.declared.Headed.{Headed}
-use Rattle.reader.proofs.Each.{each-lt, each-eq}
+use Rattle.reading.proofs.Each.{each-lt, each-eq}
 
 -- ---- a group: a sub-element stands two bytes behind its descriptor's place, and none is of the kind of joining information
 abbrev pub innerBehind : InnerStep → ℕ → ℕ → Type 0

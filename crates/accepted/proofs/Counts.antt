@@ -18,11 +18,11 @@ use Rattle.elements.specs.declared.InnerStep.the-variants as inner
 use Rattle.walk.specs.Walk.{seenOf, skipOne, taken, stopped, partTaken, headerList, outerGo, groupGo, payloadList}
 use Rattle.walk.specs.declared.Walk.{Walk}
 use Rattle.walk.specs.declared.Headed.{Headed}
-use Rattle.reader.specs.declared.Examination.{Examination}
-use Rattle.reader.specs.Read.{headedWalk, blankWalk, elementsWalk, elementsPlace, examined}
-use Rattle.reader.proofs.Each.{each-eq}
-use Rattle.reader.proofs.Within.{outer-within}
-use Rattle.reader.proofs.Noted.{kind-sync-ends, kind-hopping-ends, kind-slotframe-ends}
+use Rattle.reading.specs.declared.Examination.{Examination}
+use Rattle.reading.specs.Read.{headedWalk, blankWalk, elementsWalk, elementsPlace, examined}
+use Rattle.reading.proofs.Each.{each-eq}
+use Rattle.reading.proofs.Within.{outer-within}
+use Rattle.reading.proofs.Noted.{kind-sync-ends, kind-hopping-ends, kind-slotframe-ends}
 use Rattle.accepted.proofs.Behind.{innerBehind, inner-behind, payload-follows}
 
 -- ---- the count

@@ -20,18 +20,18 @@ use Rattle.beacon.specs.declared.TimeslotTemplate.{TimeslotTemplate}
 use Rattle.beacon.specs.declared.JoiningInformation.{JoiningInformation}
 use Rattle.walk.specs.declared.Walk.{Walk}
 use Rattle.decode.specs.Decode.{sequenceOf, sourceOf, synchronizationAt, timingAt, templateAt, linkAt, slotframeAt, networkOffset, joiningAt, openingOf, decoded}
-use Rattle.reader.specs.Read.{examined}
-use Rattle.reader.specs.Claims.{Bytes}
-use Rattle.reader.proofs.Noted.{SlotframePassed, TimeslotPassed, Noted, examined-noted}
-use Rattle.reader.proofs.Bounds.{le-below, be-below, fit-below}
-use Rattle.reader.proofs.Accepted.{Required, accepted-required, accepted-decoded}
-use Rattle.frame.specs.Limits.{all, allBelow, sequenceFits, sourceFits, synchronizationFits, templateFits, linkFits, linkUnused, slotframeFits, addressFits, presentFits, absentFits, joiningFits, fits}
+use Rattle.reading.specs.Read.{examined}
+use Rattle.reading.specs.Claims.{Bytes}
+use Rattle.reading.proofs.Noted.{SlotframePassed, TimeslotPassed, Noted, examined-noted}
+use Rattle.reading.proofs.Bounds.{le-below, be-below, fit-below}
+use Rattle.reading.proofs.Accepted.{Required, accepted-required, accepted-decoded}
+use Rattle.frame.specs.Limits.{allOf, allBelow, sequenceFits, sourceFits, synchronizationFits, templateFits, linkFits, linkUnused, slotframeFits, addressFits, presentFits, absentFits, joiningFits, fits}
 use Rattle.accepted.specs.Accepted.{AcceptedFits}
 use Rattle.accepted.proofs.ListLaws.{also, all-blank, all-counted, all-used, all-unused}
 
 -- absent joining information
 absent-fits : joiningFits (blankBeacon .joining) ≡ true
-unfolding joiningFits absentFits ifOn allBelow all
+unfolding joiningFits absentFits ifOn allBelow allOf
 absent-fits = refl
 
 -- an address that is there only if P is
@@ -77,7 +77,7 @@ module _ (s : List ℕ) (bytes : Bytes s) where
       lt-ltb _ _ (either-lt P _ _ (few _) (either-eq P _ _ (wide _) (wide _) _ _) _ _)
 
   timed-fits : (at length : ℕ) → (length ≡ 1 → ⊥) → templateFits (templateAt s at length) ≡ true
-  unfolding templateAt templateFits ifOn allBelow all counted
+  unfolding templateAt templateFits ifOn allBelow allOf counted
   timed-fits at length long =
       let f : ℕ → ℕ = timingAt s at (ifEq length 27 3 2) in
       subst (λ (t : TimeslotTemplate). templateFits t ≡ true) (if-ne _ _ length 1 long refl)

@@ -3,3 +3,4 @@ pub mod Fits
 pub mod Behind
 pub mod Counts
 pub mod NotLonger
+pub mod Witness

@@ -21,13 +21,13 @@ use Rattle.beacon.specs.declared.JoiningInformation.{JoiningInformation}
 use Rattle.control.specs.Control.{controlOf, addressLength, placesOf}
 use Rattle.walk.specs.declared.Walk.{Walk}
 use Rattle.decode.specs.Decode.{sequenceOf, sourceOf, timingAt, templateAt, slotframeAt, networkOffset, joiningAt, openingOf, decoded}
-use Rattle.reader.specs.Read.{elementsPlace, examined, readFrame}
-use Rattle.reader.specs.Claims.{Bytes}
-use Rattle.reader.proofs.Each.{each-eq}
-use Rattle.reader.proofs.Bounds.{le-below, be-below}
-use Rattle.reader.proofs.Claimed.{one-is-the-length}
-use Rattle.reader.proofs.Noted.{TimeslotPassed, JoiningPassed, Noted, examined-noted}
-use Rattle.reader.proofs.Accepted.{Required, accepted-required, accepted-decoded}
+use Rattle.reading.specs.Read.{elementsPlace, examined, readFrame}
+use Rattle.reading.specs.Claims.{Bytes}
+use Rattle.reading.proofs.Each.{each-eq}
+use Rattle.reading.proofs.Bounds.{le-below, be-below}
+use Rattle.reading.proofs.Claimed.{one-is-the-length}
+use Rattle.reading.proofs.Noted.{TimeslotPassed, JoiningPassed, Noted, examined-noted}
+use Rattle.reading.proofs.Accepted.{Required, accepted-required, accepted-decoded}
 use Rattle.frame.specs.Frame.{sequenceBytes, sourceBytes, lastWidth, templateSize, groupSize, flag, joiningSize, frameOf, frameLength}
 use Rattle.frame.specs.Limits.{fits}
 use Rattle.frame.proofs.LengthLaws.{length-le, length-frame}

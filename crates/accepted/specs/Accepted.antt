@@ -4,19 +4,25 @@ use mathlib.Core.Path.{_≡_}
 use mathlib.Core.Bool.{true}
 use mathlib.Core.List.{List}
 use lib.ListN.{length}
-use Rattle.reader.specs.Read.{readFrame}
-use Rattle.reader.specs.Claims.{Bytes}
+use Rattle.beacon.specs.Refusal.{done}
+use Rattle.reading.specs.Read.{readFrame}
+use Rattle.reading.specs.Claims.{Bytes}
+use Rattle.reading.specs.Witnesses.{shortest}
 use Rattle.frame.specs.Frame.{frameOf}
 use Rattle.frame.specs.Limits.{fits}
 
 -- every record that reading accepts is within the limits of writing
 abbrev pub AcceptedFits : Type 0
-AcceptedFits = (s : List ℕ) → Bytes s → readFrame s .number ≡ 0 → fits (readFrame s .beacon) ≡ true
+AcceptedFits = (s : List ℕ) → Bytes s → readFrame s .number ≡ done → fits (readFrame s .beacon) ≡ true
 
 -- what was read is written in at most as many bytes as were received
 abbrev pub WrittenIsNotLonger : Type 0
-WrittenIsNotLonger = (s : List ℕ) → Bytes s → readFrame s .number ≡ 0 → length (frameOf (readFrame s .beacon)) ≤ length s
+WrittenIsNotLonger = (s : List ℕ) → Bytes s → readFrame s .number ≡ done → length (frameOf (readFrame s .beacon)) ≤ length s
 
 -- so that writing does not refuse it for its length
 abbrev pub WrittenIsShort : Type 0
-WrittenIsShort = (s : List ℕ) → Bytes s → readFrame s .number ≡ 0 → length (frameOf (readFrame s .beacon)) ≤ 125
+WrittenIsShort = (s : List ℕ) → Bytes s → readFrame s .number ≡ done → length (frameOf (readFrame s .beacon)) ≤ 125
+
+-- the frame of 38 bytes meets what these theorems ask for: it is bytes and is accepted; and it is written back as it was received
+abbrev pub ShortestIsWrittenBack : Type 0
+ShortestIsWrittenBack = Bytes shortest × (readFrame shortest .number ≡ done) × (frameOf (readFrame shortest .beacon) ≡ shortest)

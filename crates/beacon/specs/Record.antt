@@ -5,11 +5,16 @@ use lib.ListN.{replicate}
 use Rattle.beacon.specs.declared.SequenceNumber.the-variants.{Absent}
 use Rattle.beacon.specs.declared.Address.the-variants.{Short}
 use Rattle.beacon.specs.declared.Link.{Link}
+use Rattle.beacon.specs.declared.JoiningInformation.{JoiningInformation}
 use Rattle.beacon.specs.declared.Beacon.{Beacon}
 
 -- a link whose numbers are all zero
 abbrev pub blankLink : Link
 blankLink = record { timeslot = 0; offset = 0; options = 0 }
+
+-- no joining information
+abbrev pub blankJoining : JoiningInformation
+blankJoining = record { present = false; router = false; proxied = false; proxy = 0; rank = 0; pan = 0; address = 0; length = 0; network = replicate 16 0 }
 
 -- the blank record
 abbrev pub blankBeacon : Beacon
@@ -21,5 +26,5 @@ blankBeacon = record {
   timeslot = record { id = 0; timed = false; timings = replicate 12 0 };
   hopping = 0;
   slotframe = record { handle = 0; size = 0; count = 0; links = replicate 16 blankLink };
-  joining = record { present = false; router = false; proxied = false; proxy = 0; rank = 0; pan = 0; address = 0; length = 0; network = replicate 16 0 };
+  joining = blankJoining;
 }

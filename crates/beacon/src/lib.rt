@@ -1,7 +1,7 @@
 // The beacon record: what an Enhanced Beacon says, field by field in the order on air, and the numbers of refusals.
 // Fields are wide enough to hold values outside their limits, so that a record that breaks a limit can be given and refused.
 ghost use mathlib.Core.Path.{_≡_};
-ghost use Rattle.beacon.specs.Record.{blankBeacon, blankLink};
+ghost use Rattle.beacon.specs.Record.{blankBeacon, blankJoining, blankLink};
 
 pub mod refusal;
 
@@ -83,6 +83,23 @@ pub fn blank_link() -> Link
     }
 }
 
+// No joining information: what the blank record and a frame without it have.
+pub fn blank_joining() -> JoiningInformation
+    ensures { λ r. ⌜ r ≡ blankJoining ⌝ }
+{
+    JoiningInformation {
+        present: false,
+        router: false,
+        proxied: false,
+        proxy: 0,
+        rank: 0,
+        pan: 0,
+        address: 0,
+        length: 0,
+        network: [0u8; 16],
+    }
+}
+
 // The blank record, which a refused reading gives.
 pub fn blank() -> Beacon
     ensures { λ r. ⌜ r ≡ blankBeacon ⌝ }
@@ -104,16 +121,6 @@ pub fn blank() -> Beacon
             count: 0,
             links: [blank_link(); 16],
         },
-        joining: JoiningInformation {
-            present: false,
-            router: false,
-            proxied: false,
-            proxy: 0,
-            rank: 0,
-            pan: 0,
-            address: 0,
-            length: 0,
-            network: [0u8; 16],
-        },
+        joining: blank_joining(),
     }
 }

@@ -1,14 +1,8 @@
-// What stands before a frame's elements: the frame control word and the fixed fields, and which form of them a beacon has.
+// What stands before a frame's elements: the frame control word and where the fixed fields are.
 ghost use mathlib.Core.Path.{_≡_};
 ghost use Prim.Native.Nat.{_≤_};
 ghost use Rattle.octets.specs.Choice.{ifEq};
-ghost use Rattle.control.specs.Control.{controlOf, addressLength, placesOf, formFault, openingFault};
-use beacon::refusal::ADDRESSING;
-use beacon::refusal::CUT;
-use beacon::refusal::DONE;
-use beacon::refusal::FRAME_TOO_LONG;
-use beacon::refusal::NOT_A_BEACON;
-use beacon::refusal::SECURED;
+ghost use Rattle.control.specs.Control.{controlOf, addressLength, placesOf};
 
 // The parts of a frame control word that matter, each as a number. Modes of addresses: 2 short, 3 extended.
 pub struct Control {
@@ -30,6 +24,7 @@ pub struct FieldPlaces {
     pub elements: usize,
 }
 
+// The parts of a frame control word.
 pub fn control_of(word: u64) -> Control
     ensures { λ r. ⌜ r ≡ controlOf word ⌝ }
 {
@@ -76,58 +71,4 @@ pub fn places_of(control: Control) -> FieldPlaces
         source,
         elements: source + address_length(control.source),
     }
-}
-
-// Whether the control word is a beacon's, of the accepted form.
-pub fn form_fault(control: Control) -> u8
-    ensures { λ r. ⌜ r ≡ formFault control ⌝ }
-{
-    if control.kind != 0 {
-        return NOT_A_BEACON;
-    }
-    if control.version != 2 {
-        return NOT_A_BEACON;
-    }
-    if control.security != 0 {
-        return SECURED;
-    }
-    if control.destination != 2 {
-        return ADDRESSING;
-    }
-    if control.source < 2 {
-        return ADDRESSING;
-    }
-    if control.compression != 1 {
-        return ADDRESSING;
-    }
-    if control.elements != 1 {
-        return ADDRESSING;
-    }
-    DONE
-}
-
-// The checks before the elements, in their order.
-pub fn opening_fault(s: &[u8]) -> u8
-    ensures { λ r. ⌜ r ≡ openingFault (now (s .entry)) ⌝ }
-{
-    if 125 < s.len() {
-        return FRAME_TOO_LONG;
-    }
-    if s.len() < 2 {
-        return CUT;
-    }
-    let control = control_of(octets::le(s, 0, 2));
-    let fault = form_fault(control);
-    if fault != DONE {
-        return fault;
-    }
-    let places = places_of(control);
-    if s.len() < places.elements {
-        return CUT;
-    }
-    let destination = places.destination;
-    if octets::le(s, destination, 2) != 65535 {
-        return ADDRESSING;
-    }
-    DONE
 }

@@ -19,7 +19,7 @@ use Rattle.control.specs.Control.{controlOf, placesOf}
 use Rattle.control.specs.declared.Control.{Control}
 use Rattle.control.specs.declared.FieldPlaces.{FieldPlaces}
 use Rattle.walk.specs.declared.Walk.{Walk}
-use Rattle.beacon.specs.Record.{blankLink, blankBeacon}
+use Rattle.beacon.specs.Record.{blankLink, blankJoining, blankBeacon}
 use Rattle.beacon.specs.declared.SequenceNumber.{SequenceNumber}
 use Rattle.beacon.specs.declared.Address.{Address}
 use Rattle.beacon.specs.declared.Synchronization.{Synchronization}
@@ -116,6 +116,9 @@ module _ (s : List ℕ) where
     unfolding joiningAt
     joining-none b e h = if-eq _ _ at 0 h (rw e)
 
+    pub joining-absent : (j : JoiningInformation) → j ≡ blankJoining → at ≡ 0 → j ≡ joiningAt s at to
+    joining-absent j e h = e ∙ joining-none blankBeacon refl h
+
     pub joining-is : (word skip length address : ℕ) (all : List ℕ) → (at ≡ 0 → ⊥) → word ≡ beAt 4 s at → skip ≡ networkOffset s at → length ≡ min (to - at - skip) 16
         → address ≡ ifEq (word / 1073741824 % 2) 1 (beAt 8 s (at + 4)) 0 → all ≡ padded (λ i. getD s (at + (skip + i)) 0) 0 16 length
         → record {
@@ -148,4 +151,4 @@ module _ (s : List ℕ) where
 pub narrows : (n width : ℕ) → n < 256 ^ min width 8 → width ≤ 3 → Fits w32 n
 narrows n width small narrow = record { fits = omega (arith, pow-le-pow-right {n = 256} (lit< tt) {i = min width 8} {j = 3} (omega arith)) }
 
-pub ruleset decoding = (choices, filling, positive, byte-past-k, le-past-k, be-past-k, some-sequence, no-sequence, extended, short, synchronizes, timing-two, timing-ten, timing-eleven, template-bare, template-timed, links-at, slotframe-is, network-from, joining-none, joining-is, opens, decodes, narrows)
+pub ruleset decoding = (choices, filling, positive, byte-past-k, le-past-k, be-past-k, some-sequence, no-sequence, extended, short, synchronizes, timing-two, timing-ten, timing-eleven, template-bare, template-timed, links-at, slotframe-is, network-from, joining-absent, joining-is, opens, decodes, narrows)

@@ -11,7 +11,7 @@ use Rattle.octets.specs.Counted.{counted, padded}
 use Rattle.control.specs.Control.{controlOf, placesOf}
 use Rattle.walk.specs.declared.Walk.{Walk}
 use Rattle.decode.specs.declared.Opening.{Opening}
-use Rattle.beacon.specs.Record.{blankLink, blankBeacon}
+use Rattle.beacon.specs.Record.{blankLink, blankJoining}
 use Rattle.beacon.specs.declared.SequenceNumber.{SequenceNumber}
 use Rattle.beacon.specs.declared.SequenceNumber.the-variants.{Absent, Number}
 use Rattle.beacon.specs.declared.Address.{Address}
@@ -41,10 +41,10 @@ timingAt s at width k = ifLt k 10 (leAt 2 s (at + (1 + 2 * k))) (ifEq k 10 (leAt
 
 -- timeslot: template ID, then nothing or twelve timings; in the form of 27 bytes the last two have 3 bytes
 unfoldable pub templateAt : List ℕ → ℕ → ℕ → TimeslotTemplate
-templateAt s at length =
-    ifEq length 1
+templateAt s at size =
+    ifEq size 1
     (record { id = getD s at 0; timed = false; timings = replicate 12 0 })
-    (record { id = getD s at 0; timed = true; timings = counted (timingAt s at (ifEq length 27 3 2)) 12 })
+    (record { id = getD s at 0; timed = true; timings = counted (timingAt s at (ifEq size 27 3 2)) 12 })
 
 -- link i of a slotframe and link element: timeslot (2), channel offset (2), options (1)
 unfoldable pub linkAt : List ℕ → ℕ → ℕ → Link
@@ -55,16 +55,17 @@ unfoldable pub slotframeAt : List ℕ → ℕ → Slotframe
 slotframeAt s at = record { handle = getD s (at + 1) 0; size = leAt 2 s (at + 2); count = getD s (at + 4) 0; links = padded (linkAt s at) blankLink 16 (getD s (at + 4) 0) }
 
 -- joining information behind its subtype, most significant bit first: R 1, P 1, reserved 3, proxy priority 7, rank priority 12, PAN
--- priority 8; then 8 address bytes if P; then the network ID to the element's end
+-- priority 8; then 8 address bytes if P; then the network ID to the element's end. This many bytes stand before the network ID
 unfoldable pub networkOffset : List ℕ → ℕ → ℕ
 networkOffset s at = 4 + 8 * (beAt 4 s at / 2 ^ 30 % 2)
 
+-- joining information that lies from a place to another; at place 0 there is none
 unfoldable pub joiningAt : List ℕ → ℕ → ℕ → JoiningInformation
 joiningAt s at to =
     let word : ℕ = beAt 4 s at in
     let before : ℕ = networkOffset s at in
-    let length : ℕ = min (to - at - before) 16 in
-    ifEq at 0 (blankBeacon .joining)
+    let size : ℕ = min (to - at - before) 16 in
+    ifEq at 0 blankJoining
     (record {
       present = true;
       router = eqb (word / 2 ^ 31 % 2) 1;
@@ -73,8 +74,8 @@ joiningAt s at to =
       rank = word / 2 ^ 8 % 4096;
       pan = word % 256;
       address = ifEq (word / 2 ^ 30 % 2) 1 (beAt 8 s (at + 4)) 0;
-      length = length;
-      network = padded (λ i. getD s (at + (before + i)) 0) 0 16 length;
+      length = size;
+      network = padded (λ i. getD s (at + (before + i)) 0) 0 16 size;
     })
 
 -- sequence number, destination PAN and source, which stand before the elements

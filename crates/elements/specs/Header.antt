@@ -12,13 +12,13 @@ use Rattle.elements.specs.declared.HeaderStep.the-variants.{End, Payload
 -- payload elements follow, ID 0x7F ends it with none following; either with a length is 6. Others are elements
 unfoldable pub headerWord : ℕ → ℕ → ℕ → HeaderStep
 headerWord at end word =
-    let length : ℕ = word % 128 in
+    let size : ℕ = word % 128 in
     let id : ℕ = word / 128 % 256 in
-    ifLt (end - (at + 2)) length (Fault cut)
+    ifLt (end - (at + 2)) size (Fault cut)
     (ifEq (word / 32768) 1 (Fault shape)
-    (ifEq id 126 (ifEq length 0 (Payload (at + 2)) (Fault shape))
-    (ifEq id 127 (ifEq length 0 End (Fault shape))
-    (Element id (at + 2) (at + 2 + length)))))
+    (ifEq id 126 (ifEq size 0 (Payload (at + 2)) (Fault shape))
+    (ifEq id 127 (ifEq size 0 End (Fault shape))
+    (Element id (at + 2) (at + 2 + size)))))
 
 -- at the end of the bytes the list ends; one byte left over is a cut descriptor (2)
 unfoldable pub headerAt : List ℕ → ℕ → ℕ → HeaderStep

@@ -23,12 +23,12 @@ groupOf s group from to =
 -- (with a length it is 6)
 unfoldable pub outerWord : List ℕ → ℕ → ℕ → ℕ → OuterStep
 outerWord s at end word =
-    let length : ℕ = word % 2048 in
+    let size : ℕ = word % 2048 in
     let group : ℕ = word / 2048 % 16 in
-    ifLt (end - (at + 2)) length (outer.Fault cut)
+    ifLt (end - (at + 2)) size (outer.Fault cut)
     (ifEq (word / 32768) 0 (outer.Fault shape)
-    (ifEq group 15 (ifEq length 0 outer.End (outer.Fault shape))
-    (groupOf s group (at + 2) (at + 2 + length))))
+    (ifEq group 15 (ifEq size 0 outer.End (outer.Fault shape))
+    (groupOf s group (at + 2) (at + 2 + size))))
 
 -- at the end of the bytes the list ends; one byte left over is a cut descriptor (2)
 unfoldable pub outerAt : List ℕ → ℕ → ℕ → OuterStep
@@ -56,6 +56,7 @@ outerWithin (outer.Joining b e) from end = (b ≡ from + 1) × (b ≤ e) × (e �
 outerWithin (outer.Skip e) from end = (from ≤ e) × (e ≤ end)
 outerWithin (outer.Fault number) from end = Unit
 
+-- where a step of a group leads lies behind it and before the end
 abbrev pub innerWithin : InnerStep → ℕ → ℕ → Type 0
 innerWithin inner.Back at end = Unit
 innerWithin (inner.Part kind b e) at end = (at < b) × (b ≤ e) × (e ≤ end)

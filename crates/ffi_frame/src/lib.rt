@@ -1,22 +1,21 @@
 // Reading frames for C and Rust (include/tesolvagna.h).
 ghost use mathlib.Core.Path.{_≡_};
 ghost use lib.ListN.{length};
-ghost use Rattle.reader.specs.Read.{readFrame, networkPart, networkStart};
-ghost use Rattle.layout.specs.Layout.{LaidOut};
+ghost use Rattle.network.specs.Network.{networkPart, networkStart};
+ghost use Rattle.read_into.specs.Lent.{lent, ReadInto};
 
-// Reads a frame into lent arrays, and gives its number.
+// Reads a frame into lent slices of 21, 12, 48 and 16 places, and gives its number; slices of other lengths are 8 and stay as they were.
 #[no_mangle]
 pub extern "C" fn tesolvagna_read(
     s: &[u8],
-    numbers: &mut [u64; 21],
-    timings: &mut [u32; 12],
-    links: &mut [u16; 48],
-    network: &mut [u8; 16],
+    numbers: &mut [u64],
+    timings: &mut [u32],
+    links: &mut [u16],
+    network: &mut [u8],
 ) -> u8
-    ensures number { λ r. ⌜ r ≡ readFrame (now (s .entry)) .number ⌝ }
-    ensures arrays { λ _. ⌜ LaidOut (readFrame (now (s .entry)) .beacon) (now (numbers .exit)) (now (timings .exit)) (now (links .exit)) (now (network .exit)) ⌝ }
+    ensures { λ r. ⌜ ReadInto (now (s .entry)) r (lent (now (numbers .entry)) (now (timings .entry)) (now (links .entry)) (now (network .entry))) (lent (now (numbers .exit)) (now (timings .exit)) (now (links .exit)) (now (network .exit))) ⌝ }
 {
-    layout::read_into(s, numbers, timings, links, network)
+    read_into::read_into(s, numbers, timings, links, network)
 }
 
 // The length of a frame's network ID, and where it starts; both are 0 if the frame is refused or has none.
@@ -25,7 +24,7 @@ pub extern "C" fn tesolvagna_network_id(s: &[u8], start: &mut usize) -> usize
     ensures length { λ r. ⌜ r ≡ length (networkPart (now (s .entry))) ⌝ }
     ensures start { λ _. ⌜ now (start .exit) ≡ networkStart (now (s .entry)) ⌝ }
 {
-    *start = reader::network_start(s);
-    let part = reader::network_id(s);
+    *start = network_start::network_start(s);
+    let part = network::network_id(s);
     part.len()
 }

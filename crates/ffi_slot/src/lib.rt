@@ -1,10 +1,10 @@
 // The C interface: each function of the library that C or Rust links, under the prefix `tesolvagna_` (include/tesolvagna.h).
 ghost use mathlib.Core.Path.{_≡_};
 ghost use Rattle.hopping.specs.Hopping.{channelOf};
-ghost use Rattle.schedule.specs.Slot.{decision};
-ghost use Rattle.schedule.specs.Answer.{answerOf};
+ghost use Rattle.slot.specs.Slot.{decision};
+ghost use Rattle.slot.specs.Answer.{answerOf};
 use beacon::Link;
-use schedule::SlotAnswer;
+use slot::SlotAnswer;
 
 // The slot decision over a lent list of links.
 #[no_mangle]
@@ -17,7 +17,7 @@ pub extern "C" fn tesolvagna_decide(
 ) -> SlotAnswer
     ensures { λ r. ⌜ r ≡ answerOf (decision (now (links .entry)) size id asn waits) ⌝ }
 {
-    schedule::answer(schedule::decide(links, size, id, asn, waits))
+    slot::answer(schedule::decide(links, size, id, asn, waits))
 }
 
 // The channel of a link with this channel offset at this ASN.

@@ -7,11 +7,11 @@ use lib.ListN.{length}
 use Rattle.octets.proofs.ChoiceLaws.{if-on, if-off}
 use Rattle.beacon.specs.declared.Beacon.{Beacon}
 use Rattle.lent_record.specs.Record.{beaconOf, laidOutBy, flatFits}
-use Rattle.writer.specs.Write.{writtenIn, roomAfter}
-use Rattle.writer.specs.declared.Written.{Written}
+use Rattle.writing.specs.Write.{writtenIn, roomAfter}
+use Rattle.writing.specs.declared.Written.{Written}
 use Rattle.ffi_write.specs.Flat.{flatWritten, flatRoom}
 
-module _ (numbers timings links network room : List ℕ) (b : Beacon) (is : b ≡ beaconOf numbers timings links network) (f : Bool) (laid : f ≡ laidOutBy b numbers links) where
+module _ (numbers timings links network room : List ℕ) (b : Beacon) (is : b ≡ beaconOf numbers timings links network) (f : Bool) (laid : f ≡ laidOutBy b numbers timings links network) where
   test : (x : Bool) → f ≡ x → flatFits numbers timings links network ≡ x
   unfolding flatFits
   test x e = rw (sym is) (sym laid ∙ e)

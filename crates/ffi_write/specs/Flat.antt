@@ -1,13 +1,13 @@
--- Writing from lent numbers: numbers that are no record's are outside the limits, and else the record that they are is written.
--- Assumes nothing.
+-- Writing from lent numbers: numbers that are no record's are outside the limits, and else the record that they are is written
+-- (docs/RULES.md, Lent numbers). Assumes nothing.
 use Prim.Native.Nat.{ℕ}
 use mathlib.Core.List.{List}
 use lib.ListN.{length}
 use Rattle.octets.specs.Choice.{ifOn}
 use Rattle.beacon.specs.Refusal.{outOfLimits}
 use Rattle.lent_record.specs.Record.{beaconOf, flatFits}
-use Rattle.writer.specs.Write.{writtenIn, roomAfter}
-use Rattle.writer.specs.declared.Written.{Written}
+use Rattle.writing.specs.Write.{writtenIn, roomAfter}
+use Rattle.writing.specs.declared.Written.{Written}
 
 module _ (numbers timings links network room : List ℕ) where
   -- the answer: the number and the frame's length

@@ -1,15 +1,18 @@
 -- The length of a frame is the formula, for records whose arrays have their sizes. Assumes nothing.
-use Prim.Native.Nat.{ℕ, zero, suc, _+_, _*_, _/_, _<_}
-use mathlib.Core.Path.{_≡_, refl, sym, _∙_}
+use Prim.Native.Nat.{ℕ, zero, suc, _+_, _*_, _/_, _<_, min}
+use mathlib.Core.Path.{_≡_, refl, sym, _∙_, ap}
 use mathlib.Core.Bool.{Bool, true, false, and-false}
 use mathlib.Core.List.{List, [], _∷_, _++_}
 use native.Mathlib.Nat.{mul-zero, mul-suc}
 use native.Mathlib.Omega.{arith}
 use borrow.Author.Tests.{ltb-true}
 use lib.Dec.{ltb}
-use lib.ListN.{length, take, drop, length-append, length-take, length-drop}
+use lib.ListN.{length, getD, take, drop, length-append, length-take, length-drop, drop-of-length-le}
+use lib.Seq.{drop-cons}
 use Rattle.octets.specs.Choice.{ifOn}
 use Rattle.octets.specs.Number.{leBytes, beBytes}
+use Rattle.beacon.specs.declared.SequenceNumber.{SequenceNumber}
+use Rattle.beacon.specs.declared.Address.{Address}
 use Rattle.beacon.specs.declared.Synchronization.{Synchronization}
 use Rattle.beacon.specs.declared.TimeslotTemplate.{TimeslotTemplate}
 use Rattle.beacon.specs.declared.Link.{Link}
@@ -43,6 +46,9 @@ unfolding numbersIn
 length-numbers width [] = sym (mul-zero width)
 length-numbers width (n ∷ ns) = length-append (leBytes width n) (numbersIn width ns) ∙ omega (arith, length-le width n, length-numbers width ns, mul-suc width (length ns))
 
+pub last-two : (ns : List ℕ) → length ns ≡ 12 → drop 10 ns ≡ getD ns 10 0 ∷ getD ns 11 0 ∷ []
+last-two ns twelve = drop-cons ns 10 0 (omega arith) ∙ ap (λ (l : List ℕ). getD ns 10 0 ∷ l) (drop-cons ns 11 0 (omega arith) ∙ ap (λ (l : List ℕ). getD ns 11 0 ∷ l) (drop-of-length-le ns {i = 12} (omega arith)))
+
 -- ---- elements
 module _ (y : Synchronization) where
   pub length-synchronization : length (synchronizationBytes y) ≡ 8
@@ -74,16 +80,21 @@ unfolding linksBytes linkBytes
 length-links [] = refl
 length-links (l ∷ ls) = simp (length-append, length-le) (omega (arith, length-links ls))
 
-pub length-slotframe : (f : Slotframe) → length (f .links) ≡ 16 → f .count < 17 → length (slotframeBytes f) ≡ 7 + 5 * f .count
+-- sixteen links at most are written, whatever number of links is
+pub length-slotframe : (f : Slotframe) → length (f .links) ≡ 16 → length (slotframeBytes f) ≡ 7 + 5 * min (f .count) 16
 unfolding slotframeBytes shortDescriptor
-length-slotframe f sixteen few =
-    let used : length (take (f .count) (f .links)) ≡ f .count = omega (arith, length-take (f .count) (f .links)) in
+length-slotframe f sixteen =
+    let used : length (take (f .count) (f .links)) ≡ min (f .count) 16 = omega (arith, length-take (f .count) (f .links)) in
     simp (length-append, length-le, length-links, used) (omega arith)
 
-pub length-group : (b : Beacon) → length (b .timeslot .timings) ≡ 12 → length (b .slotframe .links) ≡ 16 → b .slotframe .count < 17 → length (groupBytes b) ≡ 2 + groupSize b
-unfolding groupBytes groupSize groupDescriptor
-length-group b twelve sixteen few =
-    simp (length-append, length-le, length-synchronization, length-hopping) (omega (arith, length-template (b .timeslot) twelve, length-slotframe (b .slotframe) sixteen few))
+module _ (y : Synchronization) (m : TimeslotTemplate) (id : ℕ) (f : Slotframe) (twelve : length (m .timings) ≡ 12) (sixteen : length (f .links) ≡ 16) where
+  pub length-group-used : length (groupBytes y m id f) ≡ 2 + groupSize m (min (f .count) 16)
+  unfolding groupBytes groupSize groupDescriptor
+  length-group-used =
+      simp (length-append, length-le, length-synchronization, length-hopping) (omega (arith, length-template m twelve, length-slotframe f sixteen))
+
+  pub length-group : f .count < 17 → length (groupBytes y m id f) ≡ 2 + groupSize m (f .count)
+  length-group few = let all : min (f .count) 16 ≡ f .count = omega arith in rw all at length-group-used
 
 length-address : (proxied : Bool) (n : ℕ) → length (ifOn proxied (beBytes 8 n) []) ≡ 8 * flag proxied
 unfolding ifOn
@@ -129,12 +140,12 @@ pub joining-on : (b : Beacon) → fits b ≡ true → joiningFits (b .joining) �
 unfolding fits
 joining-on b within = on (joiningFits (b .joining)) (λ h. simp (h, and-false) at within)
 
-pub length-opening : (b : Beacon) → length (openingBytes b) ≡ 6 + length (sequenceBytes (b .sequence)) + length (sourceBytes (b .source))
+pub length-opening : (q : SequenceNumber) (pan : ℕ) (a : Address) → length (openingBytes q pan a) ≡ 6 + length (sequenceBytes q) + length (sourceBytes a)
 unfolding openingBytes
-length-opening b = simp (length-append, length-le) (omega arith)
+length-opening q pan a = simp (length-append, length-le) (omega arith)
 
 pub length-frame : (b : Beacon) → length (b .timeslot .timings) ≡ 12 → length (b .slotframe .links) ≡ 16 → length (b .joining .network) ≡ 16 → fits b ≡ true → length (frameOf b) ≡ frameLength b
 unfolding frameOf frameLength headerDescriptor
 length-frame b twelve sixteen bytes within =
     simp (length-append, length-le)
-    (omega (arith, length-opening b, length-group b twelve sixteen (few-links (b .slotframe) (slotframe-on b within)), length-joining (b .joining) bytes (joining-on b within)))
+    (omega (arith, length-opening (b .sequence) (b .pan) (b .source), length-group (b .synchronization) (b .timeslot) (b .hopping) (b .slotframe) twelve sixteen (few-links (b .slotframe) (slotframe-on b within)), length-joining (b .joining) bytes (joining-on b within)))

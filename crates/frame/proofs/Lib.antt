@@ -1,2 +1,3 @@
 pub mod LengthLaws
-pub mod LimitLaws
+pub mod RangeLaws
+pub mod RowLaws

@@ -16,20 +16,22 @@ use Rattle.beacon.specs.declared.Slotframe.{Slotframe}
 use Rattle.beacon.specs.declared.JoiningInformation.{JoiningInformation}
 use Rattle.beacon.specs.declared.Beacon.{Beacon}
 
--- the sequence number: its bit of frame control, which says that it is suppressed, and its byte
+-- the bit of frame control that says that the sequence number is suppressed
 unfoldable pub suppressedBit : SequenceNumber → ℕ
 suppressedBit Absent = 1
 suppressedBit (Number n) = 0
 
+-- the byte of the sequence number, if it is there
 unfoldable pub sequenceBytes : SequenceNumber → List ℕ
 sequenceBytes Absent = []
 sequenceBytes (Number n) = leBytes 1 n
 
--- the source: its addressing mode, 2 short or 3 extended, and its bytes
+-- the source's addressing mode: 2 short, 3 extended
 unfoldable pub sourceMode : Address → ℕ
 sourceMode (Short n) = 2
 sourceMode (Extended n) = 3
 
+-- the source's bytes
 unfoldable pub sourceBytes : Address → List ℕ
 sourceBytes (Short n) = leBytes 2 n
 sourceBytes (Extended n) = leBytes 8 n
@@ -39,20 +41,26 @@ unfoldable pub controlWord : SequenceNumber → Address → ℕ
 controlWord sequence source = 2 ^ 6 + suppressedBit sequence * 2 ^ 8 + 2 ^ 9 + 2 * 2 ^ 10 + 2 * 2 ^ 12 + sourceMode source * 2 ^ 14
 
 -- frame control and the fixed fields: sequence number, destination PAN, destination FF FF, source
-unfoldable pub openingBytes : Beacon → List ℕ
-openingBytes b = leBytes 2 (controlWord (b .sequence) (b .source)) ++ (sequenceBytes (b .sequence) ++ (leBytes 2 (b .pan) ++ (leBytes 2 65535 ++ sourceBytes (b .source))))
+unfoldable pub openingBytes : SequenceNumber → ℕ → Address → List ℕ
+openingBytes sequence pan source = leBytes 2 (controlWord sequence source) ++ (sequenceBytes sequence ++ (leBytes 2 pan ++ (leBytes 2 65535 ++ sourceBytes source)))
 
--- descriptors: of a header element (bits 0-6 length, 7-14 ID), of a group (bits 0-10 length, 11-14 group, 15 one), of a short
--- sub-element (bits 0-7 length, 8-14 ID) and of a long one (bits 0-10 length, 11-14 ID, 15 one)
+-- those of a record
+abbrev pub beaconOpening : Beacon → List ℕ
+beaconOpening b = openingBytes (b .sequence) (b .pan) (b .source)
+
+-- the descriptor of a header element: bits 0-6 length, 7-14 ID
 unfoldable pub headerDescriptor : ℕ → ℕ → List ℕ
 headerDescriptor id size = leBytes 2 (size + id * 2 ^ 7)
 
+-- the descriptor of a group: bits 0-10 length, 11-14 group, 15 one
 unfoldable pub groupDescriptor : ℕ → ℕ → List ℕ
 groupDescriptor group size = leBytes 2 (size + group * 2 ^ 11 + 2 ^ 15)
 
+-- the descriptor of a short sub-element: bits 0-7 length, 8-14 ID
 unfoldable pub shortDescriptor : ℕ → ℕ → List ℕ
 shortDescriptor id size = leBytes 2 (size + id * 2 ^ 8)
 
+-- the descriptor of a long sub-element: bits 0-10 length, 11-14 ID, 15 one
 unfoldable pub longDescriptor : ℕ → ℕ → List ℕ
 longDescriptor id size = leBytes 2 (size + id * 2 ^ 11 + 2 ^ 15)
 
@@ -70,13 +78,15 @@ unfoldable pub lastWidth : List ℕ → ℕ
 lastWidth [] = 2
 lastWidth (n ∷ ns) = ifLt n 65536 (lastWidth ns) 3
 
--- timeslot: template ID, then nothing or ten timings of 2 bytes and two of 2 or 3
+-- the timings: ten of 2 bytes and two of 2 or 3
 unfoldable pub timingsBytes : List ℕ → List ℕ
 timingsBytes timings = numbersIn 2 (take 10 timings) ++ numbersIn (lastWidth (drop 10 timings)) (drop 10 timings)
 
+-- the size of the timeslot element behind its descriptor: 1, 25 or 27
 unfoldable pub templateSize : TimeslotTemplate → ℕ
 templateSize t = ifOn (t .timed) (21 + 2 * lastWidth (drop 10 (t .timings))) 1
 
+-- timeslot: template ID, then nothing or the timings
 unfoldable pub templateBytes : TimeslotTemplate → List ℕ
 templateBytes t = shortDescriptor 28 (templateSize t) ++ (leBytes 1 (t .id) ++ ifOn (t .timed) (timingsBytes (t .timings)) [])
 
@@ -88,6 +98,7 @@ hoppingBytes id = longDescriptor 9 1 ++ leBytes 1 id
 unfoldable pub linkBytes : Link → List ℕ
 linkBytes l = leBytes 2 (l .timeslot) ++ (leBytes 2 (l .offset) ++ leBytes 1 (l .options))
 
+-- links one after the other
 unfoldable pub linksBytes : List Link → List ℕ
 linksBytes [] = []
 linksBytes (l ∷ ls) = linkBytes l ++ linksBytes ls
@@ -98,27 +109,37 @@ slotframeBytes f =
     shortDescriptor 27 (5 + 5 * f .count)
     ++ (leBytes 1 1 ++ (leBytes 1 (f .handle) ++ (leBytes 2 (f .size) ++ (leBytes 1 (f .count) ++ linksBytes (take (f .count) (f .links))))))
 
--- the MLME group: synchronization, timeslot, hopping, slotframe
-unfoldable pub groupSize : Beacon → ℕ
-groupSize b = 8 + (2 + templateSize (b .timeslot)) + 3 + (7 + 5 * b .slotframe .count)
+-- the size of the MLME group behind its descriptor, with a timeslot element and so many links
+unfoldable pub groupSize : TimeslotTemplate → ℕ → ℕ
+groupSize timeslot count = 8 + (2 + templateSize timeslot) + 3 + (7 + 5 * count)
 
-unfoldable pub groupBytes : Beacon → List ℕ
-groupBytes b =
-    groupDescriptor 1 (groupSize b)
-    ++ (synchronizationBytes (b .synchronization) ++ (templateBytes (b .timeslot) ++ (hoppingBytes (b .hopping) ++ slotframeBytes (b .slotframe))))
+-- the MLME group: synchronization, timeslot, hopping, slotframe
+unfoldable pub groupBytes : Synchronization → TimeslotTemplate → ℕ → Slotframe → List ℕ
+groupBytes synchronization timeslot hopping slotframe =
+    groupDescriptor 1 (groupSize timeslot (slotframe .count))
+    ++ (synchronizationBytes synchronization ++ (templateBytes timeslot ++ (hoppingBytes hopping ++ slotframeBytes slotframe)))
+
+-- the size of a record's group
+abbrev pub beaconGroupSize : Beacon → ℕ
+beaconGroupSize b = groupSize (b .timeslot) (b .slotframe .count)
+
+-- a record's group
+abbrev pub beaconGroup : Beacon → List ℕ
+beaconGroup b = groupBytes (b .synchronization) (b .timeslot) (b .hopping) (b .slotframe)
 
 -- a truth value as a bit
 abbrev pub flag : Bool → ℕ
 flag b = ifOn b 1 0
 
--- joining information: an IETF group with subtype 2; most significant bit first R, P, reserved, proxy priority, rank priority, PAN
--- priority; the address if P; the network ID
+-- the flags and priorities of joining information, most significant bit first: R, P, reserved, proxy, rank and PAN priority
 unfoldable pub joiningWord : JoiningInformation → ℕ
 joiningWord j = flag (j .router) * 2 ^ 31 + flag (j .proxied) * 2 ^ 30 + j .proxy * 2 ^ 20 + j .rank * 2 ^ 8 + j .pan
 
+-- its size behind its descriptor: subtype, flags and priorities, the address if P, the network ID
 unfoldable pub joiningSize : JoiningInformation → ℕ
 joiningSize j = 5 + 8 * flag (j .proxied) + j .length
 
+-- joining information, if it is there: an IETF group with subtype 2; the address if P; the network ID
 unfoldable pub joiningBytes : JoiningInformation → List ℕ
 joiningBytes j =
     ifOn (j .present)
@@ -127,10 +148,10 @@ joiningBytes j =
 
 -- the frame: the header list is its terminator 0x7E alone, and no payload terminator follows the elements
 unfoldable pub frameOf : Beacon → List ℕ
-frameOf b = openingBytes b ++ (headerDescriptor 126 0 ++ (groupBytes b ++ joiningBytes (b .joining)))
+frameOf b = beaconOpening b ++ (headerDescriptor 126 0 ++ (beaconGroup b ++ joiningBytes (b .joining)))
 
 -- its length as a formula of the record
 unfoldable pub frameLength : Beacon → ℕ
 frameLength b =
     8 + length (sequenceBytes (b .sequence)) + length (sourceBytes (b .source))
-    + (2 + groupSize b) + ifOn (b .joining .present) (2 + joiningSize (b .joining)) 0
+    + (2 + beaconGroupSize b) + ifOn (b .joining .present) (2 + joiningSize (b .joining)) 0

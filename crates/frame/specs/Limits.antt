@@ -18,13 +18,13 @@ use Rattle.beacon.specs.declared.JoiningInformation.{JoiningInformation}
 use Rattle.beacon.specs.declared.Beacon.{Beacon}
 
 -- a test holds of every entry of a list
-unfoldable pub all : {A : Type 0} → (A → Bool) → List A → Bool
-all test [] = true
-all test (x ∷ xs) = test x && all test xs
+unfoldable pub allOf : {A : Type 0} → (A → Bool) → List A → Bool
+allOf test [] = true
+allOf test (x ∷ xs) = test x && allOf test xs
 
 -- every number of a list is below a bound; below 1 it is zero
 unfoldable pub allBelow : ℕ → List ℕ → Bool
-allBelow bound ns = all (λ n. ltb n bound) ns
+allBelow bound ns = allOf (λ n. ltb n bound) ns
 
 -- a sequence number has one byte
 unfoldable pub sequenceFits : SequenceNumber → Bool
@@ -62,8 +62,8 @@ slotframeFits f =
     ltb (f .handle) 256
     && (ltb 0 (f .size) && (ltb (f .size) (2 ^ 16)
     && (ltb 0 (f .count) && (ltb (f .count) 17
-    && (all (linkFits (f .size)) (take (f .count) (f .links))
-    && all linkUnused (drop (f .count) (f .links)))))))
+    && (allOf (linkFits (f .size)) (take (f .count) (f .links))
+    && allOf linkUnused (drop (f .count) (f .links)))))))
 
 -- the address is unused if P is not set
 unfoldable pub addressFits : JoiningInformation → Bool
@@ -86,6 +86,7 @@ absentFits j =
     && (not (j .proxied)
     && (eqb (j .proxy) 0 && (eqb (j .rank) 0 && (eqb (j .pan) 0 && (eqb (j .address) 0 && (eqb (j .length) 0 && allBelow 1 (j .network)))))))
 
+-- joining information, there or not
 unfoldable pub joiningFits : JoiningInformation → Bool
 joiningFits j = ifOn (j .present) (presentFits j) (absentFits j)
 

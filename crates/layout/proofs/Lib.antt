@@ -1,4 +1,1 @@
-pub mod FixedLaws
-pub mod LayoutLaws
-pub mod ArrayLaws
-pub mod ReadIntoLaws
+pub mod JoinedLaws

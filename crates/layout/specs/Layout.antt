@@ -1,4 +1,4 @@
--- The record as numbers in their places, as the C header lists them. Assumes nothing.
+-- The record as numbers in their places, as the C header lists them (docs/RULES.md, Lent numbers). Assumes nothing.
 use Prim.Native.Nat.{ℕ}
 use mathlib.Core.Path.{_≡_}
 use mathlib.Core.Bool.{Bool, cond}
@@ -14,20 +14,22 @@ use Rattle.beacon.specs.declared.Slotframe.{Slotframe}
 use Rattle.beacon.specs.declared.JoiningInformation.{JoiningInformation}
 use Rattle.beacon.specs.declared.Beacon.{Beacon}
 
--- a sequence number: whether there is one, and which; 0 for none
+-- whether there is a sequence number
 abbrev pub sequencePresent : SequenceNumber → ℕ
 sequencePresent Absent = 0
 sequencePresent (Number n) = 1
 
+-- which it is; 0 for none
 abbrev pub sequenceNumber : SequenceNumber → ℕ
 sequenceNumber Absent = 0
 sequenceNumber (Number n) = n
 
--- an address: 0 short or 1 extended, and the number
+-- the kind of an address: 0 short, 1 extended
 abbrev pub sourceKind : Address → ℕ
 sourceKind (Short n) = 0
 sourceKind (Extended n) = 1
 
+-- its number
 abbrev pub sourceAddress : Address → ℕ
 sourceAddress (Short n) = n
 sourceAddress (Extended n) = n

@@ -1,2 +1,3 @@
-pub mod RecordLaws
-pub mod LayingLaws
+pub mod Claimed
+pub mod EqualLaws
+pub mod ReadingLaws

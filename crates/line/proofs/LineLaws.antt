@@ -7,12 +7,13 @@ use native.Mathlib.Nat.{pow-suc, one-le-pow, add-zero}
 use native.Mathlib.Omega.{arith}
 use lib.Dec.{lit<, lit≤}
 use lib.ListN.{length, getD, set, take, drop, length-append, drop-of-length-le}
-use lib.Seq.{sets, sets-eq, drop-cons, take-at, drop-at, length-take-le}
+use lib.Seq.{sets, sets-eq, take-at, drop-at, length-take-le}
 use Rattle.octets.specs.Number.{stored}
+use Rattle.octets.proofs.PutLaws.{put-next}
 use Rattle.octets.proofs.ChoiceLaws.{if-lt, if-ge, if-eq, if-ne, by-lt}
 use Rattle.beacon.specs.declared.Beacon.{Beacon}
-use Rattle.reader.specs.declared.ReadAnswer.{ReadAnswer}
-use Rattle.reader.specs.Read.{readFrame}
+use Rattle.reading.specs.declared.ReadAnswer.{ReadAnswer}
+use Rattle.reading.specs.Read.{readFrame}
 use Rattle.io.specs.Counts.{Counts}
 use Rattle.io.specs.Digits.{digits, Fewest}
 use Rattle.line.specs.Line.{widthGo, decimal, newline, asnName, metricName, sizeName, linksName, refusedName, field, synchronizationText, slotframeText, acceptedText, refusedText, lineOf, PartPut}
@@ -63,11 +64,7 @@ module _ (room text : List ℕ) (at : ℕ) where
   text-start = rw (add-zero at)
 
   pub text-next : (whole : List ℕ) (i d : ℕ) → i < length text → stored room (at + i) (drop i text) ≡ whole → stored (set room (at + i) (getD text i d)) (at + (i + 1)) (drop (i + 1) text) ≡ whole
-  unfolding stored
-  text-next whole i d more left =
-      let after : i + 1 ≡ suc i = omega arith in
-      let place : at + (i + 1) ≡ suc (at + i) = omega arith in
-      rw (place, after) (rw (drop-cons text i d more) at left)
+  text-next whole i d = put-next room text whole (at + i) (at + (i + 1)) i d (omega arith)
 
   pub text-end : (start : List ℕ) (i : ℕ) → i ≤ length text → length text ≤ i → length room ≡ length start → stored room (at + i) (drop i text) ≡ stored start at text → PartPut start at text room (at + i)
   unfolding stored

@@ -1,12 +1,13 @@
--- The line of text that a reading is printed as, as bytes in ASCII. Assumes nothing.
+-- The line of text that a reading is printed as, as bytes in ASCII (docs/RULES.md, The printed line). Assumes nothing.
 use Prim.Native.Nat.{ℕ, zero, suc, _+_, _/_}
 use mathlib.Core.Path.{_≡_}
 use mathlib.Core.List.{List, [], _∷_, _++_}
 use lib.ListN.{length}
 use Rattle.octets.specs.Choice.{ifLt, ifEq}
 use Rattle.octets.specs.Number.{stored}
+use Rattle.beacon.specs.Refusal.{done}
 use Rattle.beacon.specs.declared.Beacon.{Beacon}
-use Rattle.reader.specs.declared.ReadAnswer.{ReadAnswer}
+use Rattle.reading.specs.declared.ReadAnswer.{ReadAnswer}
 use Rattle.io.specs.Digits.{digits}
 
 -- how many decimal digits a number has; the bound only has to be large enough
@@ -38,6 +39,7 @@ linksName = 32 ∷ 108 ∷ 105 ∷ 110 ∷ 107 ∷ 115 ∷ 32 ∷ []
 abbrev pub refusedName : List ℕ
 refusedName = 114 ∷ 101 ∷ 102 ∷ 117 ∷ 115 ∷ 101 ∷ 100 ∷ 32 ∷ []
 
+-- the end of a line
 abbrev pub newline : List ℕ
 newline = 10 ∷ []
 
@@ -63,7 +65,7 @@ refusedText number = field refusedName number ++ newline
 
 -- the line of a reading, with its newline
 unfoldable pub lineOf : ReadAnswer → List ℕ
-lineOf a = ifEq (a .number) 0 (acceptedText (a .beacon)) (refusedText (a .number))
+lineOf a = ifEq (a .number) done (acceptedText (a .beacon)) (refusedText (a .number))
 
 -- a part of the line was put into a room from a place on: the room then, and the place behind the part
 pub record PartPut (room : List ℕ) (at : ℕ) (part : List ℕ) (after : List ℕ) (next : ℕ) : Type 0 where

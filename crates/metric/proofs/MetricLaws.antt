@@ -1,4 +1,4 @@
--- The laws of the metric: each way out of its functions, as the code meets it (`ways`), and what the crates above rest on
+-- The laws of the metric: each way out of its functions, as the code meets it (the rulesets at the end), and what the crates above rest on
 -- (`cost-above-rank`, `cost-from`, `cost-to`): nothing there depends on the increment's form. Assumes nothing.
 use Prim.Native.Nat.{ℕ, suc, _+_, _*_, _-_, _/_, _<_, _≤_}
 use native.Mathlib.Nat.{lt-div-mul-add, div-lt-iff-lt-mul, div-le-self, lt-of-mul-lt-mul-right, suc-mul}
@@ -7,9 +7,9 @@ use mathlib.Core.Path.{_≡_, refl}
 use mathlib.Core.Bool.{Bool, true, false, _&&_}
 use lib.Dec.{leb}
 use borrow.Author.Tests.{le-leb, lt-leb, leb-true}
-use Rattle.octets.proofs.ChoiceLaws.{if-eq, if-ne, choices}
+use Rattle.octets.proofs.ChoiceLaws.{if-eq, if-ne}
 use Rattle.metric.specs.declared.Place.{Place}
-use Rattle.metric.specs.Metric.{blank, IsIncrement, IncrementIsCeiling, increment, pathCost, eligible, joinMetric, joining}
+use Rattle.metric.specs.Metric.{blank, IsIncrement, IncrementIsCeiling, increment, pathCost, eligible}
 
 -- ---- the increment
 module _ (t a : ℕ) where
@@ -116,18 +116,6 @@ module _ (p : Place) (e : eligible p ≡ true) where
     pub cost-from : 512 ≤ pathCost p
     cost-from = omega (arith, parts .1, cost-above-rank)
 
--- ---- the join metric
-module _ (rank : ℕ) where
-  pub join-low : rank < 256 → joining 8 0 ≡ joinMetric rank
-  unfolding joinMetric
-  join-low h = search choices
+pub ruleset incrementWays = (increment-none, increment-some, is-increment, increment-is-ceiling)
 
-  pub join-high : 256 ≤ rank → 65534 < rank → joining 8 0 ≡ joinMetric rank
-  unfolding joinMetric
-  join-high h k = search choices
-
-  pub join-done : 256 ≤ rank → rank ≤ 65534 → joining 0 (rank / 256 - 1) ≡ joinMetric rank
-  unfolding joinMetric
-  join-done h k = search choices
-
-pub ruleset ways = (increment-none, increment-some, is-increment, path-cost-is, not-used, low-rank, none-acked, poor-link, by-cost, join-low, join-high, join-done)
+pub ruleset costWays = (path-cost-is, not-used, low-rank, none-acked, poor-link, by-cost)

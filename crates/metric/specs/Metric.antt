@@ -2,9 +2,8 @@
 use Prim.Native.Nat.{ℕ, _+_, _*_, _-_, _/_, _≤_}
 use mathlib.Core.Bool.{Bool, false, _&&_}
 use lib.Dec.{leb}
-use Rattle.octets.specs.Choice.{ifLt, ifEq}
+use Rattle.octets.specs.Choice.{ifEq}
 use Rattle.metric.specs.declared.Place.{Place}
-use Rattle.metric.specs.declared.Joining.{Joining}
 
 -- a free place is all zero
 abbrev pub blank : Place
@@ -32,11 +31,3 @@ eligible p =
     p .used
     && (leb 256 (p .rank)
     && (leb 1 (p .acked) && (leb (3 * p .attempts) (11 * p .acked) && leb (pathCost p) 65534)))
-
--- a join metric, or a refusal, which has 0 with it
-abbrev pub joining : ℕ → ℕ → Joining
-joining number metric = record { number = number; metric = metric }
-
--- the join metric of a rank: rank div 256, minus 1, for ranks 256 to 65534; others are 8
-unfoldable pub joinMetric : ℕ → Joining
-joinMetric rank = ifLt rank 256 (joining 8 0) (ifLt 65534 rank (joining 8 0) (joining 0 (rank / 256 - 1)))

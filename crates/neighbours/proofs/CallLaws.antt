@@ -4,7 +4,9 @@ use native.Mathlib.Omega.{arith}
 use mathlib.Core.Path.{_≡_, refl, sym, ap, ap₂, _∙_}
 use mathlib.Core.Bool.{Bool, true, false, cond, _||_}
 use mathlib.Core.List.{List}
-use lib.ListN.{length, getD, replicate, set}
+use lib.ListN.{length, getD, replicate, set, List·getD-eq-default}
+use lib.Seq.{set-out}
+use lib.Dec.{eqb}
 use mir.Syntax.{w16}
 use mir.Val.{Fits}
 use Rattle.octets.proofs.ChoiceLaws.{choices}
@@ -12,15 +14,16 @@ use Rattle.metric.specs.declared.Place.{Place}
 use Rattle.metric.specs.Metric.{blank, eligible, pathCost}
 use Rattle.metric.proofs.MetricLaws.{cost-to}
 use Rattle.places.specs.Places.{best, changeFirst, free, known, named, some, twice, unfit, nonzero}
-use Rattle.places.specs.Search.{first}
-use Rattle.places.proofs.PlaceLaws.{answered, length-mapped, first-missing, first-there, fit-limits, neither, none-at, set-there, some-missing, some-there}
+use Rattle.places.specs.Search.{firstFrom}
+use Rattle.places.proofs.PlaceLaws.{answered, length-mapped, first-at, fit-limits, from-0, neither, none-at, set-there, some-missing, some-there}
 use Rattle.neighbours.specs.declared.Parent.{Parent}
 use Rattle.neighbours.specs.declared.Parent.the-variants.{None, Held}
 use Rattle.neighbours.specs.declared.Table.{Table}
 use Rattle.neighbours.specs.declared.Answer.{Answer}
+use Rattle.neighbours.specs.declared.Choice.{Choice}
 use Rattle.neighbours.specs.declared.Evaluation.{Evaluation}
 use Rattle.neighbours.specs.Changes.{attempted, newcomer, withCounters, withRank}
-use Rattle.neighbours.specs.Calls.{advertised, answer, parentMissing, broken, chosen, emptyTable, evaluated, evaluation, forgotten, held, heldPlace, reported, taken, withParent, withPlaces, without}
+use Rattle.neighbours.specs.Calls.{advertised, answer, broken, choice, choiceOf, chosen, emptyTable, evaluated, evaluation, forgotten, held, heldPlace, parentMissing, reported, sameParent, settled, withParent, withPlaces, without}
 
 -- ---- what a place becomes
 module _ (p : Place) (k : ℕ) (ok : Bool) (more : ℕ) (q : Place) (e : more ≡ cond ok 1 0) where
@@ -48,7 +51,7 @@ module _ (q : Parent) (ps : List Place) where
   unfolding parentMissing
   missing-none e = rw e
 
-  module _ (n i : ℕ) (e : q ≡ Held n) (s : i ≡ first (named n) ps) (l : length ps ≡ 32) where
+  module _ (n i : ℕ) (e : q ≡ Held n) (s : i ≡ firstFrom (named n) 0 ps) (l : length ps ≡ 32) where
     pub missing-known : i < 32 → false ≡ parentMissing q ps
     unfolding parentMissing
     missing-known h = rw (e, some-there (named n) ps i 32 s l h)
@@ -85,90 +88,89 @@ module _ (t : Table) (i : ℕ) where
 
 -- ---- the calls
 module _ (t : Table) (n : ℕ) (x : Bool) (e : x ≡ broken t) where
-  module _ (k : ℕ) (r : Answer) where
-    pub advertised-broken : x ≡ true → r ≡ answer 8 t → r ≡ advertised t n k
+  -- a table that breaks a rule
+  module _ (u : x ≡ true) where
+    b-on : broken t ≡ true
+    b-on = sym e ∙ u
+
+    pub advertised-broken : (k : ℕ) → answer 8 t ≡ advertised t n k
     unfolding advertised
-    advertised-broken u f = let b : broken t ≡ true = sym e ∙ u in search choices
+    advertised-broken k = let b = b-on in search choices
 
-    module _ (i : ℕ) (u : x ≡ false) (s : i ≡ first (named n) (t .places)) (l : length (t .places) ≡ 32) where
-      pub advertised-known : (q : Place) → i < 32 → q ≡ withRank k (getD (t .places) i blank) → r ≡ answer 0 (withPlaces t (set (t .places) i q)) → r ≡ advertised t n k
-      unfolding advertised
-      advertised-known q h f g =
-          let b : broken t ≡ false = sym e ∙ u in
-          let a : known n (t .places) ≡ true = some-there (named n) (t .places) i 32 s l h in
-          let v : r ≡ answer 0 (withPlaces t (changeFirst (named n) (withRank k) (t .places))) = g ∙ ap (λ (ps : List Place). answer 0 (withPlaces t ps)) (set-there (named n) (t .places) i 32 s l (withRank k) q f) in
-          search choices
+    pub reported-broken : (k : ℕ) (ok : Bool) → answer 8 t ≡ reported t n k ok
+    unfolding reported
+    reported-broken k ok = let b = b-on in search choices
 
-      module _ (j : ℕ) (h : 32 ≤ i) (m : j ≡ first free (t .places)) where
-        pub advertised-new : (q : Place) → j < 32 → q ≡ newcomer n k → r ≡ answer 0 (withPlaces t (set (t .places) j q)) → r ≡ advertised t n k
-        unfolding advertised
-        advertised-new q w f g =
-            let b : broken t ≡ false = sym e ∙ u in
-            let a : known n (t .places) ≡ false = some-missing (named n) (t .places) i 32 s l h in
-            let c : some free (t .places) ≡ true = some-there free (t .places) j 32 m l w in
-            let v : r ≡ answer 0 (withPlaces t (changeFirst free (λ p. newcomer n k) (t .places))) = g ∙ ap (λ (ps : List Place). answer 0 (withPlaces t ps)) (set-there free (t .places) j 32 m l (λ p. newcomer n k) q f) in
-            search choices
-
-        pub advertised-full : 32 ≤ j → r ≡ answer 11 t → r ≡ advertised t n k
-        unfolding advertised
-        advertised-full w f =
-            let b : broken t ≡ false = sym e ∙ u in
-            let a : known n (t .places) ≡ false = some-missing (named n) (t .places) i 32 s l h in
-            let c : some free (t .places) ≡ false = some-missing free (t .places) j 32 m l w in
-            search choices
-
-    module _ (ok : Bool) where
-      pub reported-broken : x ≡ true → r ≡ answer 8 t → r ≡ reported t n k ok
-      unfolding reported
-      reported-broken u f = let b : broken t ≡ true = sym e ∙ u in search choices
-
-      module _ (u : x ≡ false) where
-        pub reported-none : k < 1 → r ≡ answer 8 t → r ≡ reported t n k ok
-        unfolding reported
-        reported-none h f = let b : broken t ≡ false = sym e ∙ u in search choices
-
-        pub reported-many : 1 ≤ k → 4 < k → r ≡ answer 8 t → r ≡ reported t n k ok
-        unfolding reported
-        reported-many g h f = let b : broken t ≡ false = sym e ∙ u in search choices
-
-        module _ (i : ℕ) (g : 1 ≤ k) (h : k ≤ 4) (s : i ≡ first (named n) (t .places)) (l : length (t .places) ≡ 32) where
-          pub reported-known : (q : Place) → i < 32 → q ≡ attempted k ok (getD (t .places) i blank) → r ≡ answer 0 (withPlaces t (set (t .places) i q)) → r ≡ reported t n k ok
-          unfolding reported
-          reported-known q w f v =
-              let b : broken t ≡ false = sym e ∙ u in
-              let a : known n (t .places) ≡ true = some-there (named n) (t .places) i 32 s l w in
-              let d : r ≡ answer 0 (withPlaces t (changeFirst (named n) (attempted k ok) (t .places))) = v ∙ ap (λ (ps : List Place). answer 0 (withPlaces t ps)) (set-there (named n) (t .places) i 32 s l (attempted k ok) q f) in
-              search choices
-
-          pub reported-unknown : 32 ≤ i → r ≡ answer 10 t → r ≡ reported t n k ok
-          unfolding reported
-          reported-unknown w f =
-              let b : broken t ≡ false = sym e ∙ u in
-              let a : known n (t .places) ≡ false = some-missing (named n) (t .places) i 32 s l w in
-              search choices
-
-  module _ (r : Answer) where
-    pub forgotten-broken : x ≡ true → r ≡ answer 8 t → r ≡ forgotten t n
+    pub forgotten-broken : answer 8 t ≡ forgotten t n
     unfolding forgotten
-    forgotten-broken u f = let b : broken t ≡ true = sym e ∙ u in search choices
+    forgotten-broken = let b = b-on in search choices
 
-    module _ (i : ℕ) (u : x ≡ false) (s : i ≡ first (named n) (t .places)) (l : length (t .places) ≡ 32) where
-      pub forgotten-known : (o : Parent) (v : Table) (q : Place) → i < 32 → o ≡ without n (t .parent) → v ≡ withParent t o → q ≡ blank → r ≡ answer 0 (withPlaces v (set (v .places) i q)) → r ≡ forgotten t n
-      unfolding forgotten
-      forgotten-known o v q w f g h d =
-          let b : broken t ≡ false = sym e ∙ u in
-          let a : known n (t .places) ≡ true = some-there (named n) (t .places) i 32 s l w in
-          let y : r ≡ answer 0 (record { places = changeFirst (named n) (λ p. blank) (t .places); parent = without n (t .parent) }) =
-          d ∙ ap (λ (z : Table). answer 0 (withPlaces z (set (z .places) i q))) (g ∙ ap (withParent t) f)
-          ∙ ap (λ (ps : List Place). answer 0 (record { places = ps; parent = without n (t .parent) })) (set-there (named n) (t .places) i 32 s l (λ p. blank) q h) in
-          search choices
+  -- one that breaks none
+  module _ (u : x ≡ false) where
+    b-off : broken t ≡ false
+    b-off = sym e ∙ u
 
-      pub forgotten-unknown : 32 ≤ i → r ≡ answer 10 t → r ≡ forgotten t n
-      unfolding forgotten
-      forgotten-unknown w f =
-          let b : broken t ≡ false = sym e ∙ u in
-          let a : known n (t .places) ≡ false = some-missing (named n) (t .places) i 32 s l w in
-          search choices
+    module _ (k : ℕ) (ok : Bool) where
+      pub reported-none : k < 1 → answer 8 t ≡ reported t n k ok
+      unfolding reported
+      reported-none h = let b = b-off in search choices
+
+      pub reported-many : 1 ≤ k → 4 < k → answer 8 t ≡ reported t n k ok
+      unfolding reported
+      reported-many g h = let b = b-off in search choices
+
+    -- the neighbour is looked for, and found at i, or not
+    module _ (i : ℕ) (s : i ≡ firstFrom (named n) 0 (t .places)) (l : length (t .places) ≡ 32) where
+      module _ (w : i < 32) where
+        there : known n (t .places) ≡ true
+        there = some-there (named n) (t .places) i 32 s l w
+
+        changed : (g : Place → Place) (q : Place) (v : Table) → q ≡ g (getD (t .places) i blank) → v ≡ withPlaces t (set (t .places) i q) → answer 0 v ≡ answer 0 (withPlaces t (changeFirst (named n) g (t .places)))
+        changed g q v f h = ap (answer 0) (h ∙ ap (withPlaces t) (set-there (named n) (t .places) i 32 s l g q f))
+
+        pub advertised-known : (k : ℕ) (q : Place) (v : Table) → q ≡ withRank k (getD (t .places) i blank) → v ≡ withPlaces t (set (t .places) i q) → answer 0 v ≡ advertised t n k
+        unfolding advertised
+        advertised-known k q v f g = let b = b-off in let a = there in let c = changed (withRank k) q v f g in search choices
+
+        pub reported-known : (k : ℕ) (ok : Bool) (q : Place) (v : Table) → 1 ≤ k → k ≤ 4 → q ≡ attempted k ok (getD (t .places) i blank) → v ≡ withPlaces t (set (t .places) i q) → answer 0 v ≡ reported t n k ok
+        unfolding reported
+        reported-known k ok q v g h f d = let b = b-off in let a = there in let c = changed (attempted k ok) q v f d in search choices
+
+        pub forgotten-known : (o : Parent) (v z : Table) (q : Place) → o ≡ without n (t .parent) → q ≡ blank → v ≡ withPlaces t (set (t .places) i q) → z ≡ withParent v o → answer 0 z ≡ forgotten t n
+        unfolding forgotten
+        forgotten-known o v z q f g h d =
+            let b = b-off in
+            let a = there in
+            let c : v ≡ withPlaces t (changeFirst (named n) (λ p. blank) (t .places)) = h ∙ ap (withPlaces t) (set-there (named n) (t .places) i 32 s l (λ p. blank) q g) in
+            let y : answer 0 z ≡ answer 0 (record { places = changeFirst (named n) (λ p. blank) (t .places); parent = without n (t .parent) }) =
+            ap (answer 0) (d ∙ ap (withParent v) f ∙ ap (λ (w : Table). withParent w (without n (t .parent))) c) in
+            search choices
+
+      module _ (w : 32 ≤ i) where
+        not-there : known n (t .places) ≡ false
+        not-there = some-missing (named n) (t .places) i 32 s l w
+
+        module _ (j : ℕ) (m : j ≡ firstFrom free 0 (t .places)) (k : ℕ) where
+          pub advertised-new : (q : Place) (v : Table) → j < 32 → q ≡ newcomer n k → v ≡ withPlaces t (set (t .places) j q) → answer 0 v ≡ advertised t n k
+          unfolding advertised
+          advertised-new q v h f g =
+              let b = b-off in
+              let a = not-there in
+              let c : some free (t .places) ≡ true = some-there free (t .places) j 32 m l h in
+              let d : answer 0 v ≡ answer 0 (withPlaces t (changeFirst free (λ p. newcomer n k) (t .places))) = ap (answer 0) (g ∙ ap (withPlaces t) (set-there free (t .places) j 32 m l (λ p. newcomer n k) q f)) in
+              search choices
+
+          pub advertised-full : 32 ≤ j → answer 11 t ≡ advertised t n k
+          unfolding advertised
+          advertised-full h = let b = b-off in let a = not-there in let c : some free (t .places) ≡ false = some-missing free (t .places) j 32 m l h in search choices
+
+        pub reported-unknown : (k : ℕ) (ok : Bool) → 1 ≤ k → k ≤ 4 → answer 10 t ≡ reported t n k ok
+        unfolding reported
+        reported-unknown k ok g h = let b = b-off in let a = not-there in search choices
+
+        pub forgotten-unknown : answer 10 t ≡ forgotten t n
+        unfolding forgotten
+        forgotten-unknown = let b = b-off in let a = not-there in search choices
 
 module _ (n : ℕ) (q : Parent) where
   pub without-none : q ≡ None → None ≡ without n q
@@ -184,76 +186,102 @@ module _ (n : ℕ) (q : Parent) where
   without-other m e h = rw e (search choices)
 
 -- ---- evaluation
-module _ (t : Table) where
-  pub held-none : (b : Place) → t .parent ≡ None → b ≡ blank → b ≡ held t
+module _ (q : Parent) (ps : List Place) where
+  pub held-none : (b : Place) → q ≡ None → b ≡ blank → b ≡ heldPlace q ps
   unfolding heldPlace
   held-none b e f = rw e f
 
-  module _ (n i : ℕ) (e : t .parent ≡ Held n) (s : i ≡ first (named n) (t .places)) (l : length (t .places) ≡ 32) where
-    pub held-there : i < 32 → getD (t .places) i blank ≡ held t
-    unfolding heldPlace
-    held-there h = rw e (first-there (named n) (t .places) i 32 s l h)
+  pub held-at : (n i : ℕ) (p : Place) → q ≡ Held n → i ≡ firstFrom (named n) 0 ps → p ≡ getD ps i blank → p ≡ heldPlace q ps
+  unfolding heldPlace
+  held-at n i p e s f = rw e (f ∙ ap (λ (k : ℕ). getD ps k blank) (s ∙ from-0 (named n) ps) ∙ first-at (named n) ps)
 
-    pub held-missing : (b : Place) → 32 ≤ i → b ≡ blank → b ≡ held t
-    unfolding heldPlace
-    held-missing b h f = rw e (f ∙ first-missing (named n) (t .places) i 32 s l h)
+-- a place at a number, and the blank place past the end
+pub at-out : (ps : List Place) (i : ℕ) (b : Place) → length ps ≡ 32 → 32 ≤ i → b ≡ blank → b ≡ getD ps i blank
+at-out ps i b l h e = e ∙ sym (List·getD-eq-default ps blank (omega arith))
 
-  module _ (h b : Place) (x : Bool) (e : x ≡ eligible b) where
-    pub chosen-none : (v : Table) → x ≡ false → v ≡ withParent t None → evaluation 0 v 65535 ≡ chosen t h b
+module _ (q : Parent) (h b : Place) (x : Bool) (e : x ≡ eligible b) where
+  pub chosen-none : x ≡ false → choice None 65535 ≡ chosen q h b
+  unfolding chosen
+  chosen-none u = let a : eligible b ≡ false = sym e ∙ u in search choices
+
+  module _ (y : Bool) (u : x ≡ true) (f : y ≡ eligible h) where
+    pub chosen-best : (r : Choice) → y ≡ false → r ≡ choiceOf b → r ≡ chosen q h b
     unfolding chosen
-    chosen-none v u f = let a : eligible b ≡ false = sym e ∙ u in let g : evaluation 0 v 65535 ≡ evaluation 0 (withParent t None) 65535 = ap (λ (z : Table). evaluation 0 z 65535) f in search choices
+    chosen-best r v g = let a : eligible b ≡ true = sym e ∙ u in let c : eligible h ≡ false = sym f ∙ v in search choices
 
-    module _ (y : Bool) (u : x ≡ true) (f : y ≡ eligible h) where
-      pub chosen-best : (r : Evaluation) → y ≡ false → r ≡ taken t b → r ≡ chosen t h b
+    module _ (v : y ≡ true) (c d m : ℕ) (g : c ≡ pathCost h) (k : d ≡ pathCost b) (w : m ≡ c - d) where
+      pub chosen-change : (r : Choice) → 640 < m → r ≡ choiceOf b → r ≡ chosen q h b
       unfolding chosen
-      chosen-best r v g = let a : eligible b ≡ true = sym e ∙ u in let c : eligible h ≡ false = sym f ∙ v in search choices
+      chosen-change r l z =
+          let a : eligible b ≡ true = sym e ∙ u in
+          let o : eligible h ≡ true = sym f ∙ v in
+          let i : 640 < pathCost h - pathCost b = omega arith in
+          search choices
 
-      module _ (v : y ≡ true) (c d m : ℕ) (g : c ≡ pathCost h) (k : d ≡ pathCost b) (w : m ≡ c - d) where
-        pub chosen-change : (r : Evaluation) → 640 < m → r ≡ taken t b → r ≡ chosen t h b
-        unfolding chosen
-        chosen-change r l z =
-            let a : eligible b ≡ true = sym e ∙ u in
-            let o : eligible h ≡ true = sym f ∙ v in
-            let i : 640 < pathCost h - pathCost b = omega arith in
-            search choices
+      pub chosen-keep : (j : ℕ) → m ≤ 640 → j ≡ pathCost h → choice q j ≡ chosen q h b
+      unfolding chosen
+      chosen-keep j l z =
+          let a : eligible b ≡ true = sym e ∙ u in
+          let o : eligible h ≡ true = sym f ∙ v in
+          let i : pathCost h - pathCost b ≤ 640 = omega arith in
+          let n : choice q j ≡ choice q (pathCost h) = ap (choice q) z in
+          search choices
 
-        pub chosen-keep : (j : ℕ) → m ≤ 640 → j ≡ pathCost h → evaluation 0 t j ≡ chosen t h b
-        unfolding chosen
-        chosen-keep j l z =
-            let a : eligible b ≡ true = sym e ∙ u in
-            let o : eligible h ≡ true = sym f ∙ v in
-            let i : pathCost h - pathCost b ≤ 640 = omega arith in
-            let q : evaluation 0 t j ≡ evaluation 0 t (pathCost h) = ap (evaluation 0 t) z in
-            search choices
+pub choice-is : (p : Place) (j : ℕ) → j ≡ pathCost p → choice (Held (p .id)) j ≡ choiceOf p
+choice-is p j f = ap (choice (Held (p .id))) f
 
-  pub taken-is : (p : Place) (v : Table) (j : ℕ) → v ≡ withParent t (Held (p .id)) → j ≡ pathCost p → evaluation 0 v j ≡ taken t p
-  taken-is p v j e f = ap₂ (evaluation 0) e f
+module _ (t : Table) (x : Bool) (e : x ≡ broken t) where
+  pub evaluated-broken : x ≡ true → evaluation 8 t 65535 ≡ evaluated t
+  unfolding evaluated
+  evaluated-broken u = let b : broken t ≡ true = sym e ∙ u in search choices
 
-  module _ (x : Bool) (e : x ≡ broken t) where
-    pub evaluated-broken : x ≡ true → evaluation 8 t 65535 ≡ evaluated t
-    unfolding evaluated
-    evaluated-broken u = let b : broken t ≡ true = sym e ∙ u in search choices
+  pub evaluated-done : (h b : Place) (c : Choice) (v : Table) → x ≡ false → h ≡ held t → b ≡ best (t .places) → c ≡ chosen (t .parent) h b → v ≡ withParent t (c .parent) → evaluation 0 v (c .rank) ≡ evaluated t
+  unfolding evaluated
+  evaluated-done h b c v u f g k w =
+      let a : broken t ≡ false = sym e ∙ u in
+      let z : evaluation 0 v (c .rank) ≡ settled t (chosen (t .parent) (held t) (best (t .places))) =
+      ap (λ (y : Table). evaluation 0 y (c .rank)) w ∙ ap (settled t) (k ∙ ap₂ (chosen (t .parent)) f g) in
+      search choices
 
-    pub evaluated-done : (h b : Place) (r : Evaluation) → x ≡ false → h ≡ held t → b ≡ best (t .places) → r ≡ chosen t h b → r ≡ evaluated t
-    unfolding evaluated
-    evaluated-done h b r u f g k =
-        let a : broken t ≡ false = sym e ∙ u in
-        let z : r ≡ chosen t (held t) (best (t .places)) = k ∙ ap₂ (chosen t) f g in
-        search choices
+-- ---- two held parents
+module _ (q p : Parent) where
+  pub same-none : q ≡ None → p ≡ None → true ≡ sameParent q p
+  unfolding sameParent
+  same-none e f = rw (e, f)
 
--- one set for each part of the source
-pub ruleset placeWays = (attempted-halved, attempted-plain, newcomer-is)
+  pub same-gained : (m : ℕ) → q ≡ None → p ≡ Held m → false ≡ sameParent q p
+  unfolding sameParent
+  same-gained m e f = rw (e, f)
+
+  pub same-lost : (n : ℕ) → q ≡ Held n → p ≡ None → false ≡ sameParent q p
+  unfolding sameParent
+  same-lost n e f = rw (e, f)
+
+  pub same-held : (n m : ℕ) → q ≡ Held n → p ≡ Held m → eqb n m ≡ sameParent q p
+  unfolding sameParent
+  same-held n m e f = rw (e, f)
+
+-- a place stored past the end is not stored
+pub place-out : (t : Table) (i : ℕ) (p : Place) → length (t .places) ≡ 32 → 32 ≤ i → t ≡ withPlaces t (set (t .places) i p)
+place-out t i p l h = ap (withPlaces t) (sym (set-out (t .places) i p (omega arith)))
+
+-- one set for each crate of functions over a table
+pub ruleset emptyWays = (empty-is)
 
 pub ruleset checkWays = (length-mapped, missing-none, missing-known, missing-unknown, broken-unfit, broken-twice, broken-parent)
 
-pub ruleset choiceWays = (answered, length-mapped, rank-fits, held-none, held-there, held-missing, chosen-none, chosen-best, chosen-change, chosen-keep, taken-is)
+pub ruleset storeWays = (length-mapped, place-out)
 
-pub ruleset advertiseWays = (length-mapped, advertised-broken, advertised-known, advertised-new, advertised-full)
+pub ruleset advertiseWays = (length-mapped, newcomer-is, advertised-broken, advertised-known, advertised-new, advertised-full)
 
-pub ruleset reportWays = (length-mapped, limit-attempts, limit-acked, reported-broken, reported-none, reported-many, reported-known, reported-unknown)
+pub ruleset reportWays = (length-mapped, attempted-halved, attempted-plain, limit-attempts, limit-acked, reported-broken, reported-none, reported-many, reported-known, reported-unknown)
 
 pub ruleset forgetWays = (length-mapped, forgotten-broken, forgotten-known, forgotten-unknown, without-none, without-same, without-other)
 
+pub ruleset heldWays = (length-mapped, held-none, held-at, at-out)
+
+pub ruleset choiceWays = (answered, rank-fits, chosen-none, chosen-best, chosen-change, chosen-keep, choice-is)
+
 pub ruleset evaluateWays = (evaluated-broken, evaluated-done)
 
-pub ruleset emptyWays = (empty-is)
+pub ruleset sameWays = (same-none, same-gained, same-lost, same-held)

@@ -6,12 +6,14 @@ use mathlib.Core.List.{List}
 use lib.ListN.{replicate}
 use lib.Dec.{eqb}
 use Rattle.octets.specs.Choice.{ifLt, ifEq, ifOn}
+use Rattle.beacon.specs.Refusal.{done, outOfLimits, tableFull, unknownNeighbour}
 use Rattle.metric.specs.declared.Place.{Place}
 use Rattle.metric.specs.Metric.{blank, eligible, pathCost}
 use Rattle.neighbours.specs.declared.Parent.{Parent}
 use Rattle.neighbours.specs.declared.Parent.the-variants.{None, Held}
 use Rattle.neighbours.specs.declared.Table.{Table}
 use Rattle.neighbours.specs.declared.Answer.{Answer}
+use Rattle.neighbours.specs.declared.Choice.{Choice}
 use Rattle.neighbours.specs.declared.Evaluation.{Evaluation}
 use Rattle.places.specs.Places.{best, changeFirst, firstOf, free, known, named, some, twice, unfit}
 use Rattle.neighbours.specs.Changes.{attempted, newcomer, withRank}
@@ -21,9 +23,11 @@ use Rattle.neighbours.specs.Changes.{attempted, newcomer, withRank}
 abbrev pub emptyTable : Table
 emptyTable = record { places = replicate 32 blank; parent = None }
 
+-- a table with other places
 abbrev pub withPlaces : Table → List Place → Table
 withPlaces t ps = record { places = ps; parent = t .parent }
 
+-- a table with another held parent
 abbrev pub withParent : Table → Parent → Table
 withParent t q = record { places = t .places; parent = q }
 
@@ -37,25 +41,26 @@ unfoldable pub broken : Table → Bool
 broken t = some unfit (t .places) || (twice (t .places) || parentMissing (t .parent) (t .places))
 
 -- ---- the calls, each first fault first: 8, 10, 11
+-- a call's number and its table
 abbrev pub answer : ℕ → Table → Answer
 answer number t = record { number = number; table = t }
 
 -- sets the rank, or adds a neighbour in the lowest-numbered free place
 unfoldable pub advertised : Table → ℕ → ℕ → Answer
 advertised t n r =
-    ifOn (broken t) (answer 8 t)
-    (ifOn (known n (t .places)) (answer 0 (withPlaces t (changeFirst (named n) (withRank r) (t .places))))
-    (ifOn (some free (t .places)) (answer 0 (withPlaces t (changeFirst free (λ p. newcomer n r) (t .places))))
-    (answer 11 t)))
+    ifOn (broken t) (answer outOfLimits t)
+    (ifOn (known n (t .places)) (answer done (withPlaces t (changeFirst (named n) (withRank r) (t .places))))
+    (ifOn (some free (t .places)) (answer done (withPlaces t (changeFirst free (λ p. newcomer n r) (t .places))))
+    (answer tableFull t)))
 
 -- 1 to 4 attempts, acknowledged or not
 unfoldable pub reported : Table → ℕ → ℕ → Bool → Answer
 reported t n k ok =
-    ifOn (broken t) (answer 8 t)
-    (ifLt k 1 (answer 8 t)
-    (ifLt 4 k (answer 8 t)
-    (ifOn (known n (t .places)) (answer 0 (withPlaces t (changeFirst (named n) (attempted k ok) (t .places))))
-    (answer 10 t))))
+    ifOn (broken t) (answer outOfLimits t)
+    (ifLt k 1 (answer outOfLimits t)
+    (ifLt 4 k (answer outOfLimits t)
+    (ifOn (known n (t .places)) (answer done (withPlaces t (changeFirst (named n) (attempted k ok) (t .places))))
+    (answer unknownNeighbour t))))
 
 -- the held parent once neighbour n is removed
 unfoldable pub without : ℕ → Parent → Parent
@@ -65,20 +70,18 @@ without n (Held m) = ifEq m n None (Held m)
 -- removes the neighbour; a held parent so removed becomes none
 unfoldable pub forgotten : Table → ℕ → Answer
 forgotten t n =
-    ifOn (broken t) (answer 8 t)
+    ifOn (broken t) (answer outOfLimits t)
     (ifOn (known n (t .places))
-    (answer 0 (record { places = changeFirst (named n) (λ p. blank) (t .places); parent = without n (t .parent) }))
-    (answer 10 t))
+    (answer done (record { places = changeFirst (named n) (λ p. blank) (t .places); parent = without n (t .parent) }))
+    (answer unknownNeighbour t))
 
 -- ---- evaluation
-abbrev pub evaluation : ℕ → Table → ℕ → Evaluation
-evaluation number t rank = record { number = number; table = t; rank = rank }
-
 -- the held parent's place, and the blank place for none
 unfoldable pub heldPlace : Parent → List Place → Place
 heldPlace None ps = blank
 heldPlace (Held n) ps = firstOf (named n) ps
 
+-- the same of a table
 abbrev pub held : Table → Place
 held t = heldPlace (t .parent) (t .places)
 
@@ -87,24 +90,36 @@ abbrev pub heldCost : Table → ℕ
 heldCost t = pathCost (held t)
 
 -- whether two held parents are the same
-unfoldable pub same : Parent → Parent → Bool
-same None None = true
-same None (Held m) = false
-same (Held n) None = false
-same (Held n) (Held m) = eqb n m
+unfoldable pub sameParent : Parent → Parent → Bool
+sameParent None None = true
+sameParent None (Held m) = false
+sameParent (Held n) None = false
+sameParent (Held n) (Held m) = eqb n m
 
--- take a place's neighbour as parent; own rank is its cost
-abbrev pub taken : Table → Place → Evaluation
-taken t p = evaluation 0 (withParent t (Held (p .id))) (pathCost p)
+-- a choice: the parent that is held from now on, and the own rank
+abbrev pub choice : Parent → ℕ → Choice
+choice q rank = record { parent = q; rank = rank }
 
--- the choice between the held place h and the best place b: with no eligible neighbour none; if the held one is none or
--- not eligible the best; otherwise change exactly when held cost minus best cost is greater than 640
-unfoldable pub chosen : Table → Place → Place → Evaluation
-chosen t h b =
+-- a place's neighbour as parent: own rank is its cost
+abbrev pub choiceOf : Place → Choice
+choiceOf p = choice (Held (p .id)) (pathCost p)
+
+-- the choice between the held parent q, whose place is h, and the best place b: with no eligible neighbour none; if the held
+-- one is none or not eligible the best; otherwise change exactly when held cost minus best cost is greater than 640
+unfoldable pub chosen : Parent → Place → Place → Choice
+chosen q h b =
     ifOn (eligible b)
-    (ifOn (eligible h) (ifLt 640 (pathCost h - pathCost b) (taken t b) (evaluation 0 t (pathCost h))) (taken t b))
-    (evaluation 0 (withParent t None) 65535)
+    (ifOn (eligible h) (ifLt 640 (pathCost h - pathCost b) (choiceOf b) (choice q (pathCost h))) (choiceOf b))
+    (choice None 65535)
+
+-- an evaluation's number, table and own rank
+abbrev pub evaluation : ℕ → Table → ℕ → Evaluation
+evaluation number t rank = record { number = number; table = t; rank = rank }
 
 -- sets the held parent and says the own rank
+abbrev pub settled : Table → Choice → Evaluation
+settled t c = evaluation done (withParent t (c .parent)) (c .rank)
+
+-- the choice is set; a refusal says 65535
 unfoldable pub evaluated : Table → Evaluation
-evaluated t = ifOn (broken t) (evaluation 8 t 65535) (chosen t (held t) (best (t .places)))
+evaluated t = ifOn (broken t) (evaluation outOfLimits t 65535) (settled t (chosen (t .parent) (held t) (best (t .places))))

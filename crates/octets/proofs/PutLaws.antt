@@ -6,10 +6,10 @@ use mathlib.Core.List.{List, [], _∷_}
 use native.Mathlib.Nat.{pow-suc, pow-succ', one-le-pow, mul-assoc, mul-add, mul-suc, mul-one, mul-le-mul-left, add-zero, sub-zero, div-add-mod, div-one, div-div-eq-div-mul, mod-lt, mod-one, mod-eq-of-lt, mul-add-mod-self-left, le-suc}
 use native.Mathlib.Numerals.{add-one}
 use native.Mathlib.Omega.{arith}
-use lib.Dec.{lit<}
-use lib.ListN.{length, getD, set, length-set}
-use lib.Seq.{sets, set-out, set-comm, getD-set-same, getD-set-other}
-use Rattle.octets.specs.Number.{leAt, beAt, leBytes, beBytes, stored, ReadsBack}
+use lib.Dec.{lit<, lit≤}
+use lib.ListN.{length, getD, set, drop, length-set}
+use lib.Seq.{sets, drop-cons, set-out, set-comm, getD-set-same, getD-set-other}
+use Rattle.octets.specs.Number.{leAt, beAt, leBytes, beBytes, stored, ReadsBack, ReadsBackInARoom}
 
 -- ---- a number's remainder by a product, part by part
 mod-mul : (a b n : ℕ) → 0 < a → 0 < b → n % (a * b) ≡ n % a + a * (n / a % b)
@@ -103,3 +103,17 @@ module _ (room done : List ℕ) (at width n : ℕ) where
 
   pub be-reads : done ≡ stored room at (beBytes width n) → at + width ≤ length room → beAt width done at ≡ n % 256 ^ width
   be-reads put fits = rw put (be-back width n at room fits)
+
+-- ---- a list put entry by entry: what is left gives what the whole gives
+pub put-next : (room text whole : List ℕ) (at next i d : ℕ) → next ≡ suc at → i < length text → stored room at (drop i text) ≡ whole → stored (set room at (getD text i d)) next (drop (i + 1) text) ≡ whole
+unfolding stored
+put-next room text whole at next i d place more left = let after : i + 1 ≡ suc i = omega arith in rw (place, after) (rw (drop-cons text i d more) at left)
+
+-- ---- a room in which a number is put and read
+pub le-in-a-room : ReadsBackInARoom leBytes leAt
+unfolding leAt leBytes stored
+le-in-a-room = (lit≤ tt, refl)
+
+pub be-in-a-room : ReadsBackInARoom beBytes beAt
+unfolding beAt beBytes stored
+be-in-a-room = (lit≤ tt, refl)

@@ -1,5 +1,6 @@
--- The choices that definitions are written with: a row of them, in the order of the rules, says which answer comes first.
--- They stay shut in goals; their laws stand in proofs/ChoiceLaws.antt. Assumes nothing.
+-- The choices that definitions are written with: a row of them, in the order of the rules, says which answer comes first
+-- (docs/RULES.md, How the definitions are written). They stay shut in goals; their laws stand in proofs/ChoiceLaws.antt. Assumes
+-- nothing.
 use Prim.Native.Nat.{ℕ}
 use mathlib.Core.Bool.{Bool, cond}
 use lib.Dec.{ltb, eqb}

@@ -1,8 +1,8 @@
--- Numbers held in bytes, for every width: read at a place of a list of bytes, and as the bytes to put there.
--- Past the end of the list a byte reads as 0. Assumes nothing.
+-- Numbers held in bytes, for every width: read at a place of a list of bytes, and as the bytes to put there (docs/RULES.md,
+-- Numbers in bytes). Past the end of the list a byte reads as 0. Assumes nothing.
 use Prim.Native.Nat.{ℕ, zero, suc, _+_, _*_, _/_, _%_, _^_, _≤_}
 use mathlib.Core.List.{List, [], _∷_}
-use lib.ListN.{length, getD}
+use lib.ListN.{length, getD, replicate}
 use lib.Seq.{sets}
 use mathlib.Core.Path.{_≡_}
 
@@ -33,3 +33,9 @@ stored room at bytes = sets room at bytes
 -- the claim that what was put reads back: read at its place, it is the number's low bytes, and so the number itself where it fits
 abbrev pub ReadsBack : (ℕ → ℕ → List ℕ) → (ℕ → List ℕ → ℕ → ℕ) → Type 0
 ReadsBack bytesOf numberAt = (width n at : ℕ) (room : List ℕ) → at + width ≤ length room → numberAt width (stored room at (bytesOf width n)) at ≡ n % 256 ^ width
+
+-- such a room: of four bytes, with a number of two bytes from its second byte on
+abbrev pub ReadsBackInARoom : (ℕ → ℕ → List ℕ) → (ℕ → List ℕ → ℕ → ℕ) → Type 0
+ReadsBackInARoom bytesOf numberAt =
+    let room : List ℕ = replicate 4 0 in
+    (1 + 2 ≤ length room) × (numberAt 2 (stored room 1 (bytesOf 2 4660)) 1 ≡ 4660)

@@ -1,21 +1,21 @@
--- The laws of places: each way out of a function over places, as the code meets it (`placeWays`), and how what is found by
--- number is what the definitions speak of. Assumes nothing.
+-- The laws of places: each way out of a function over places, as the code meets it (the rulesets at the end), and how what
+-- is found by number is what the definitions speak of. Assumes nothing.
 use Prim.Native.Nat.{ℕ, zero, suc, _+_, _<_, _≤_}
 use native.Mathlib.Numerals.{add-one}
 use native.Mathlib.Omega.{arith}
 use mathlib.Core.Path.{_≡_, refl, sym, ap, subst, _∙_}
 use mathlib.Core.Bool.{Bool, true, false, _&&_, _||_}
 use mathlib.Core.List.{List, [], _∷_, map}
-use lib.ListN.{length, getD, drop, set, length-map, drop-of-length-le}
+use lib.ListN.{length, getD, drop, set, length-map, length-drop, drop-of-length-le}
 use lib.Seq.{drop-cons}
 use lib.Dec.{ltb, eqb}
 use borrow.Author.Tests.{lt-ltb, le-ltb, ltb-false}
 use Rattle.octets.specs.Choice.{ifOn}
-use Rattle.octets.proofs.ChoiceLaws.{choices}
+use Rattle.octets.proofs.ChoiceLaws.{by-lt, choices}
 use Rattle.metric.specs.declared.Place.{Place}
 use Rattle.metric.specs.Metric.{blank, eligible, pathCost}
 use Rattle.places.specs.Places.{better, bestOf, best, changeFirst, firstOf, free, known, named, nearer, nonzero, some, twice, unfit}
-use Rattle.places.specs.Search.{first}
+use Rattle.places.specs.Search.{first, firstFrom}
 
 -- an array of structs that is a field has its length
 pub length-mapped : {X Y : Type 0} (f : X → Y) (l : List X) (n : ℕ) → length (map f l) ≡ n → length l ≡ n
@@ -67,13 +67,14 @@ module _ (p : Place) where
   unfolding unfit
   unfit-acked h k = simp (le-ltb 255 (p .attempts) h, lt-ltb (p .attempts) (p .acked) k)
 
-  pub unfit-free : (x y : Bool) → p .attempts ≤ 255 → p .acked ≤ p .attempts → x ≡ free p → x ≡ true → y ≡ nonzero p → y ≡ unfit p
-  unfolding unfit
-  unfit-free x y h k e u f = simp (le-ltb 255 (p .attempts) h, le-ltb (p .attempts) (p .acked) k, ← e, u, f)
+  module _ (h : p .attempts ≤ 255) (k : p .acked ≤ p .attempts) where
+    pub unfit-used : p .used ≡ true → false ≡ unfit p
+    unfolding unfit free
+    unfit-used u = simp (le-ltb 255 (p .attempts) h, le-ltb (p .attempts) (p .acked) k, u)
 
-  pub unfit-not : (x : Bool) → p .attempts ≤ 255 → p .acked ≤ p .attempts → x ≡ free p → x ≡ false → false ≡ unfit p
-  unfolding unfit
-  unfit-not x h k e u = simp (le-ltb 255 (p .attempts) h, le-ltb (p .attempts) (p .acked) k, ← e, u)
+    pub unfit-free : (x : Bool) → p .used ≡ false → x ≡ nonzero p → x ≡ unfit p
+    unfolding unfit free
+    unfit-free x u f = simp (le-ltb 255 (p .attempts) h, le-ltb (p .attempts) (p .acked) k, u, f)
 
 -- ---- walking the places: what is left gives what the whole gives
 module _ (f : Place → Bool) (ps : List Place) (i : ℕ) (w x : Bool) where
@@ -90,17 +91,17 @@ unfolding some
 some-end f ps i n w e l h = let k : length ps ≤ i = omega arith in rw (drop-of-length-le ps k) at h
 
 module _ (f : Place → Bool) (ps : List Place) (i w : ℕ) (x : Bool) where
-  pub first-next : i < length ps → i + first f (drop i ps) ≡ w → x ≡ f (getD ps i blank) → x ≡ false → (i + 1) + first f (drop (i + 1) ps) ≡ w
-  unfolding first
+  pub first-next : i < length ps → firstFrom f i ps ≡ w → x ≡ f (getD ps i blank) → x ≡ false → firstFrom f (i + 1) ps ≡ w
+  unfolding first firstFrom
   first-next l h e u = rw add-one (let k : i + suc (first f (drop (suc i) ps)) ≡ w = rw (drop-cons ps i blank l, ← e, u) at h in omega arith)
 
-  pub first-found : i < length ps → i + first f (drop i ps) ≡ w → x ≡ f (getD ps i blank) → x ≡ true → i ≡ w
-  unfolding first
+  pub first-found : i < length ps → firstFrom f i ps ≡ w → x ≡ f (getD ps i blank) → x ≡ true → i ≡ w
+  unfolding first firstFrom
   first-found l h e u = let k : i + 0 ≡ w = rw (drop-cons ps i blank l, ← e, u) at h in omega arith
 
-pub first-end : (f : Place → Bool) (ps : List Place) (i n w : ℕ) → length ps ≡ n → i ≤ n → n ≤ i → i + first f (drop i ps) ≡ w → n ≡ w
-unfolding first
-first-end f ps i n w e k l h = let m : length ps ≤ i = omega arith in let g : i + 0 ≡ w = rw (drop-of-length-le ps m) at h in omega arith
+pub first-end : (f : Place → Bool) (ps : List Place) (i n w : ℕ) → length ps ≡ n → n ≤ i → firstFrom f i ps ≡ w → i ≡ w
+unfolding first firstFrom
+first-end f ps i n w e l h = let m : length ps ≤ i = omega arith in let g : i + 0 ≡ w = rw (drop-of-length-le ps m) at h in omega arith
 
 module _ (ps : List Place) (i : ℕ) (w x : Bool) where
   pub twice-next : i < length ps → twice (drop i ps) ≡ w → x ≡ (getD ps i blank .used && known (getD ps i blank .id) (drop (i + 1) ps)) → x ≡ false → twice (drop (i + 1) ps) ≡ w
@@ -114,13 +115,6 @@ module _ (ps : List Place) (i : ℕ) (w x : Bool) where
 pub twice-end : (ps : List Place) (i n : ℕ) (w : Bool) → length ps ≡ n → n ≤ i → twice (drop i ps) ≡ w → false ≡ w
 unfolding twice
 twice-end ps i n w e l h = let k : length ps ≤ i = omega arith in rw (drop-of-length-le ps k) at h
-
-module _ (p : Place) (n : ℕ) (rest : List Place) where
-  pub again-used : (x : Bool) → p .used ≡ true → x ≡ known (p .id) rest → x ≡ (p .used && known (p .id) rest)
-  again-used x u e = rw u e
-
-  pub again-free : p .used ≡ false → false ≡ (p .used && known (p .id) rest)
-  again-free u = rw u
 
 -- ---- the best place
 module _ (b p : Place) (c d : ℕ) (e : c ≡ pathCost p) (f : d ≡ pathCost b) where
@@ -194,41 +188,49 @@ module _ (f : Place → Bool) where
       split (f p) (λ e. let k : suc (length ps) ≤ 0 = rw e at h in absurd (omega arith))
       (λ e. rw e (missing ps (let k : suc (length ps) ≤ suc (first f ps) = rw e at h in omega arith)))
 
-  pub place-there : (ps : List Place) → first f ps < length ps → getD ps (first f ps) blank ≡ firstOf f ps
+  pub first-at : (ps : List Place) → getD ps (first f ps) blank ≡ firstOf f ps
   unfolding first firstOf
-  place-there [] h = absurd (omega arith)
-  place-there (p ∷ ps) h = split (f p) (λ e. rw e) (λ e. rw e (place-there ps (let k : suc (first f ps) < suc (length ps) = rw e at h in omega arith)))
-
-  pub place-none : (ps : List Place) → length ps ≤ first f ps → blank ≡ firstOf f ps
-  unfolding first firstOf
-  place-none [] h = refl
-  place-none (p ∷ ps) h =
-      split (f p) (λ e. let k : suc (length ps) ≤ 0 = rw e at h in absurd (omega arith))
-      (λ e. rw e (place-none ps (let k : suc (length ps) ≤ suc (first f ps) = rw e at h in omega arith)))
+  first-at [] = refl
+  first-at (p ∷ ps) = split (f p) (λ e. rw e) (λ e. rw e (first-at ps))
 
   pub set-first : (g : Place → Place) (ps : List Place) → set ps (first f ps) (g (getD ps (first f ps) blank)) ≡ changeFirst f g ps
   unfolding first changeFirst
   set-first g [] = refl
   set-first g (p ∷ ps) = split (f p) (λ e. rw e) (λ e. rw e (ap (λ (l : List Place). p ∷ l) (set-first g ps)))
 
+pub from-0 : (f : Place → Bool) (ps : List Place) → firstFrom f 0 ps ≡ first f ps
+unfolding firstFrom
+from-0 f ps = omega arith
+
 -- the same, as the code has it: the number i that the search answered, in an array of n places
-module _ (f : Place → Bool) (ps : List Place) (i n : ℕ) (e : i ≡ first f ps) (l : length ps ≡ n) where
+module _ (f : Place → Bool) (ps : List Place) (i n : ℕ) (e₀ : i ≡ firstFrom f 0 ps) (l : length ps ≡ n) where
+  e : i ≡ first f ps
+  e = e₀ ∙ from-0 f ps
+
   pub some-there : i < n → some f ps ≡ true
-  some-there h = found f ps (omega arith)
+  some-there h = found f ps (omega (arith, e))
 
   pub some-missing : n ≤ i → some f ps ≡ false
-  some-missing h = missing f ps (omega arith)
+  some-missing h = missing f ps (omega (arith, e))
 
   pub set-there : (g : Place → Place) (q : Place) → q ≡ g (getD ps i blank) → set ps i q ≡ changeFirst f g ps
   set-there g q h =
       subst (λ (k : ℕ). set ps k q ≡ changeFirst f g ps) (sym e)
       (subst (λ (z : Place). set ps (first f ps) z ≡ changeFirst f g ps) (sym (h ∙ ap (λ (k : ℕ). g (getD ps k blank)) e)) (set-first f g ps))
 
-  pub first-there : i < n → getD ps i blank ≡ firstOf f ps
-  first-there h = subst (λ (k : ℕ). getD ps k blank ≡ firstOf f ps) (sym e) (place-there f ps (omega arith))
+-- the same from a number on
+from-there : (f : Place → Bool) (ps : List Place) (from i n : ℕ) → i ≡ firstFrom f from ps → length ps ≡ n → ltb i n ≡ some f (drop from ps)
+unfolding firstFrom
+from-there f ps from i n e l =
+    by-lt i n (λ h. lt-ltb i n h ∙ sym (found f (drop from ps) (omega (arith, length-drop from ps))))
+    (λ h. le-ltb i n h ∙ sym (missing f (drop from ps) (omega (arith, length-drop from ps))))
 
-  pub first-missing : n ≤ i → blank ≡ firstOf f ps
-  first-missing h = place-none f ps (omega arith)
+module _ (p : Place) (ps : List Place) (from : ℕ) where
+  pub again-used : (i n : ℕ) → p .used ≡ true → i ≡ firstFrom (named (p .id)) from ps → length ps ≡ n → ltb i n ≡ (p .used && known (p .id) (drop from ps))
+  again-used i n u e l = rw u (from-there (named (p .id)) ps from i n e l)
+
+  pub again-free : p .used ≡ false → false ≡ (p .used && known (p .id) (drop from ps))
+  again-free u = rw u
 
 -- where no place is so, none is at any number
 pub none-at : (f : Place → Bool) (ps : List Place) (i : ℕ) → f blank ≡ false → some f ps ≡ false → f (getD ps i blank) ≡ false
@@ -244,4 +246,9 @@ fit-limits p e =
     let n₂ = neither (ltb (p .attempts) (p .acked)) (free p && nonzero p) (n₁ .1) in
     (ltb-false 255 (p .attempts) (n₁ .0), ltb-false (p .attempts) (p .acked) (n₂ .0))
 
-pub ruleset placeWays = (length-mapped, answered, free-not, free-is, named-used, named-free, nonzero-id, nonzero-rank, nonzero-attempts, nonzero-acked, unfit-attempts, unfit-acked, unfit-free, unfit-not, some-next, some-found, some-end, first-next, first-found, first-end, twice-next, twice-found, twice-end, again-used, again-free, nearer-cost, nearer-held, nearer-id, nearer-tie, better-both, better-new, better-old, best-start, best-next, best-end)
+-- one set for each crate of functions over places
+pub ruleset searchWays = (free-not, free-is, named-used, named-free, first-next, first-found, first-end)
+
+pub ruleset limitWays = (nonzero-id, nonzero-rank, nonzero-attempts, nonzero-acked, unfit-attempts, unfit-acked, unfit-used, unfit-free, some-next, some-found, some-end, twice-next, twice-found, twice-end, again-used, again-free)
+
+pub ruleset bestWays = (nearer-cost, nearer-held, nearer-id, nearer-tie, better-both, better-new, better-old, best-start, best-next, best-end)

@@ -1,5 +1,3 @@
-// The 32 places of a neighbour table: looking for one, which of them break a rule, and the best of them.
+// The 32 places of a neighbour table: what the rules say of them (specs/), and looking for one.
 // The rules are those of docs/RULES.md, Neighbours.
-pub mod best;
-pub mod limits;
 pub mod search;

@@ -2,10 +2,10 @@
 use metric::Place;
 ghost use mathlib.Core.Path.{_≡_};
 ghost use Rattle.places.specs.Places.{free, named};
-ghost use Rattle.places.specs.Search.{first};
+ghost use Rattle.places.specs.Search.{firstFrom};
 
 // Whether a place is in use by this neighbour.
-pub(crate) fn is_named(p: Place, id: u64) -> bool
+fn is_named(p: Place, id: u64) -> bool
     ensures { λ r. ⌜ r ≡ named id p ⌝ }
 {
     if p.used {
@@ -14,22 +14,22 @@ pub(crate) fn is_named(p: Place, id: u64) -> bool
     false
 }
 
-// The number of the neighbour's place.
-pub fn find(ps: [Place; 32], id: u64) -> usize
-    ensures { λ r. ⌜ r ≡ first (named id) ps ⌝ }
+// The number of the neighbour's place, looked for from a number on; that number where it is over 32.
+pub fn find(ps: [Place; 32], from: usize, id: u64) -> usize
+    ensures { λ r. ⌜ r ≡ firstFrom (named id) from ps ⌝ }
 {
-    let mut i = 0;
+    let mut i = from;
     while i < 32 {
         if is_named(ps[i], id) {
             return i;
         }
         i += 1;
     }
-    32
+    i
 }
 
 // Whether a place is free.
-pub(crate) fn is_free(p: Place) -> bool
+fn is_free(p: Place) -> bool
     ensures { λ r. ⌜ r ≡ free p ⌝ }
 {
     if p.used {
@@ -40,7 +40,7 @@ pub(crate) fn is_free(p: Place) -> bool
 
 // The number of the lowest-numbered free place.
 pub fn find_free(ps: [Place; 32]) -> usize
-    ensures { λ r. ⌜ r ≡ first free ps ⌝ }
+    ensures { λ r. ⌜ r ≡ firstFrom free 0 ps ⌝ }
 {
     let mut i = 0;
     while i < 32 {
@@ -49,5 +49,5 @@ pub fn find_free(ps: [Place; 32]) -> usize
         }
         i += 1;
     }
-    32
+    i
 }

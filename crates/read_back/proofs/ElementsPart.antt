@@ -19,9 +19,9 @@ use Rattle.walk.specs.declared.Headed.{Headed}
 use Rattle.walk.proofs.ListLaws.{header-start, header-payload, outer-start, outer-none, joining-turn, payload-is}
 use Rattle.decode.specs.Decode.{joiningAt}
 use Rattle.decode.proofs.DecodeLaws.{joining-none}
-use Rattle.reader.specs.Read.{headedWalk, blankWalk, elementsWalk, missing}
-use Rattle.reader.proofs.ReadLaws.{header-and-payload}
-use Rattle.frame.specs.Frame.{headerDescriptor, groupSize, groupBytes, joiningSize, joiningBytes}
+use Rattle.reading.specs.Read.{headedWalk, blankWalk, elementsWalk, missing}
+use Rattle.reading.proofs.ReadLaws.{header-and-payload}
+use Rattle.frame.specs.Frame.{headerDescriptor, joiningSize, joiningBytes, beaconGroupSize, beaconGroup}
 use Rattle.frame.proofs.LengthLaws.{length-group}
 use Rattle.read_back.specs.ReadBack.{Sized}
 use Rattle.read_back.proofs.Stands.{Stands, stands-split}
@@ -41,20 +41,20 @@ noted-still : (s : List ℕ) (b : Beacon) (w : Walk) (from to : ℕ) → Noted s
 unfolding taken ifEq missing
 noted-still s b w from to n = record { fine = n .fine; all = n .all; synchronization = n .synchronization; timeslot = n .timeslot; hopping = n .hopping; slotframe = n .slotframe }
 
-module _ (s : List ℕ) (at end : ℕ) (b : Beacon) (sized : Sized b) (w : Within b) (ends : end ≡ at + 2 + (2 + groupSize b) + ifOn (b .joining .present) (2 + joiningSize (b .joining)) 0)
-    (h : Stands s at (headerDescriptor 126 0 ++ (groupBytes b ++ joiningBytes (b .joining)))) where
-  room : at + 2 + 2 + groupSize b ≤ end
+module _ (s : List ℕ) (at end : ℕ) (b : Beacon) (sized : Sized b) (w : Within b) (ends : end ≡ at + 2 + (2 + beaconGroupSize b) + ifOn (b .joining .present) (2 + joiningSize (b .joining)) 0)
+    (h : Stands s at (headerDescriptor 126 0 ++ (beaconGroup b ++ joiningBytes (b .joining)))) where
+  room : at + 2 + 2 + beaconGroupSize b ≤ end
   room = omega arith
 
-  list : (header.Payload (at + 2) ≡ headerAt s at end) × Stands s (at + 2) (groupBytes b ++ joiningBytes (b .joining))
+  list : (header.Payload (at + 2) ≡ headerAt s at end) × Stands s (at + 2) (beaconGroup b ++ joiningBytes (b .joining))
   list = head-payload s _ at end (omega (arith, room)) h
 
   -- the end of the group
   abbrev to : ℕ
-  to = at + 2 + 2 + groupSize b
+  to = at + 2 + 2 + beaconGroupSize b
 
-  group : Stands s (at + 2) (groupBytes b) × Stands s to (joiningBytes (b .joining))
-  group = stands-split s (groupBytes b) (joiningBytes (b .joining)) (at + 2) (groupSize b) (length-group b (sized .timings) (sized .links) (w .slotframe .few)) (list .1)
+  group : Stands s (at + 2) (beaconGroup b) × Stands s to (joiningBytes (b .joining))
+  group = stands-split s (beaconGroup b) (joiningBytes (b .joining)) (at + 2) (beaconGroupSize b) (length-group (b .synchronization) (b .timeslot) (b .hopping) (b .slotframe) (sized .timings) (sized .links) (w .slotframe .few)) (list .1)
 
   -- what the payload list behind the group gives, all elements give
   gives : (r : Walk) → OuterIs s to end (pastGroup s (at + 2) end b sized w room (group .0)) r → r ≡ elementsWalk s at end

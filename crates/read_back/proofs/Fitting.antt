@@ -16,7 +16,7 @@ use Rattle.beacon.specs.declared.Link.{Link}
 use Rattle.beacon.specs.declared.Slotframe.{Slotframe}
 use Rattle.beacon.specs.declared.JoiningInformation.{JoiningInformation}
 use Rattle.beacon.specs.declared.Beacon.{Beacon}
-use Rattle.frame.specs.Limits.{all, allBelow, sequenceFits, sourceFits, synchronizationFits, templateFits, linkFits, linkUnused, slotframeFits, addressFits, presentFits, absentFits, joiningFits, fits}
+use Rattle.frame.specs.Limits.{allOf, allBelow, sequenceFits, sourceFits, synchronizationFits, templateFits, linkFits, linkUnused, slotframeFits, addressFits, presentFits, absentFits, joiningFits, fits}
 use Rattle.read_back.specs.ReadBack.{Sized}
 
 -- both parts of a conjunction
@@ -47,17 +47,17 @@ off-on test x y h e = rw e at h
 
 -- ---- what a test of every entry says
 module _ {A : Type 0} (test : A → Bool) where
-  all-at : (xs : List A) (blank : A) (i : ℕ) → i < length xs → all test xs ≡ true → test (getD xs i blank) ≡ true
-  unfolding all
+  all-at : (xs : List A) (blank : A) (i : ℕ) → i < length xs → allOf test xs ≡ true → test (getD xs i blank) ≡ true
+  unfolding allOf
   all-at [] blank i l h = absurd (omega arith)
-  all-at (x ∷ xs) blank zero l h = both (test x) (all test xs) h .0
-  all-at (x ∷ xs) blank (suc i) l h = all-at xs blank i (omega arith) (both (test x) (all test xs) h .1)
+  all-at (x ∷ xs) blank zero l h = both (test x) (allOf test xs) h .0
+  all-at (x ∷ xs) blank (suc i) l h = all-at xs blank i (omega arith) (both (test x) (allOf test xs) h .1)
 
-  all-blank : (blank : A) → ((x : A) → test x ≡ true → x ≡ blank) → (xs : List A) → all test xs ≡ true → xs ≡ replicate (length xs) blank
-  unfolding all
+  all-blank : (blank : A) → ((x : A) → test x ≡ true → x ≡ blank) → (xs : List A) → allOf test xs ≡ true → xs ≡ replicate (length xs) blank
+  unfolding allOf
   all-blank blank one [] h = refl
   all-blank blank one (x ∷ xs) h =
-      let k = both (test x) (all test xs) h in
+      let k = both (test x) (allOf test xs) h in
       rw (one x (k .0), ← all-blank blank one xs (k .1))
 
 pub below-at : (bound : ℕ) (ns : List ℕ) (i : ℕ) → i < length ns → allBelow bound ns ≡ true → getD ns i 0 < bound
@@ -73,7 +73,7 @@ zeros = all-blank (λ n. ltb n 1) 0 zero-below-1
 
 -- what is behind the first n entries of an array, if it is unused
 module _ {A : Type 0} (test : A → Bool) (blank : A) (one : (x : A) → test x ≡ true → x ≡ blank) where
-  unused-is : (l : List A) (size n : ℕ) → length l ≡ size → all test (drop n l) ≡ true → drop n l ≡ replicate (size - n) blank
+  unused-is : (l : List A) (size n : ℕ) → length l ≡ size → allOf test (drop n l) ≡ true → drop n l ≡ replicate (size - n) blank
   unused-is l size n sized h =
       let e : length (drop n l) ≡ size - n = omega (arith, length-drop n l) in
       all-blank test blank one (drop n l) h ∙ rw e
@@ -142,7 +142,7 @@ pub record SlotframeWithin (f : Slotframe) : Type 0 where
 abbrev slotframeTests : Slotframe → List Bool
 slotframeTests f =
     ltb (f .handle) 256 ∷ ltb 0 (f .size) ∷ ltb (f .size) (2 ^ 16) ∷ ltb 0 (f .count) ∷ ltb (f .count) 17
-    ∷ all (linkFits (f .size)) (take (f .count) (f .links)) ∷ all linkUnused (drop (f .count) (f .links)) ∷ []
+    ∷ allOf (linkFits (f .size)) (take (f .count) (f .links)) ∷ allOf linkUnused (drop (f .count) (f .links)) ∷ []
 
 slotframe-each : (f : Slotframe) → slotframeFits f ≡ true → (i : ℕ) → getD (slotframeTests f) i true ≡ true
 unfolding slotframeFits

@@ -16,8 +16,8 @@ use Rattle.walk.specs.Walk.{seenOf, taken, OuterIs}
 use Rattle.walk.specs.declared.Walk.{Walk}
 use Rattle.walk.proofs.ListLaws.{outer-start, outer-enter, GroupLeads, group-start, group-back}
 use Rattle.decode.specs.Decode.{synchronizationAt, templateAt, slotframeAt}
-use Rattle.reader.specs.Read.{headedWalk, blankWalk, missing}
-use Rattle.frame.specs.Frame.{synchronizationBytes, templateSize, templateBytes, hoppingBytes, slotframeBytes, groupSize, groupBytes}
+use Rattle.reading.specs.Read.{headedWalk, blankWalk, missing}
+use Rattle.frame.specs.Frame.{synchronizationBytes, templateSize, templateBytes, hoppingBytes, slotframeBytes, groupSize, groupBytes, beaconGroupSize, beaconGroup}
 use Rattle.frame.proofs.LengthLaws.{length-synchronization, length-template, length-hopping}
 use Rattle.read_back.specs.ReadBack.{Sized}
 use Rattle.read_back.proofs.Stands.{Stands, stands-split}
@@ -44,7 +44,7 @@ none-missing w a b c d =
     if-ne _ _ _ _ (λ (z : w .synchronization ≡ 0). omega arith)
     (if-ne _ _ _ _ (λ (z : w .timeslot ≡ 0). omega arith) (if-ne _ _ _ _ (λ (z : w .hopping ≡ 0). omega arith) (if-ne _ _ _ _ (λ (z : w .slotframe ≡ 0). omega arith) refl)))
 
-module _ (s : List ℕ) (at end : ℕ) (b : Beacon) (sized : Sized b) (w : Within b) (room : at + 2 + groupSize b ≤ end) (h : Stands s at (groupBytes b)) where
+module _ (s : List ℕ) (at end : ℕ) (b : Beacon) (sized : Sized b) (w : Within b) (room : at + 2 + beaconGroupSize b ≤ end) (h : Stands s at (beaconGroup b)) where
   -- where its elements start, and where it ends
   abbrev first : ℕ
   first = at + 2
@@ -61,19 +61,19 @@ module _ (s : List ℕ) (at end : ℕ) (b : Beacon) (sized : Sized b) (w : Withi
   abbrev last : ℕ
   last = fourth + 2 + (5 + 5 * b .slotframe .count)
 
-  last-is : last ≡ at + 2 + groupSize b
+  last-is : last ≡ at + 2 + beaconGroupSize b
   unfolding groupSize
   last-is = omega arith
 
-  size-small : groupSize b < 2048
+  size-small : beaconGroupSize b < 2048
   unfolding groupSize
   size-small = omega (arith, template-small (b .timeslot), w .slotframe .few)
 
   -- ---- its elements stand one behind the other
-  enters : (outer.Group (at + 2) (at + 2 + groupSize b) ≡ outerAt s at end)
+  enters : (outer.Group (at + 2) (at + 2 + beaconGroupSize b) ≡ outerAt s at end)
       × Stands s first (synchronizationBytes (b .synchronization) ++ (templateBytes (b .timeslot) ++ (hoppingBytes (b .hopping) ++ slotframeBytes (b .slotframe))))
   unfolding groupBytes groupOf
-  enters = head-group s _ at end (groupSize b) room 1 (outer.Group (at + 2) (at + 2 + groupSize b)) (omega arith) size-small (λ k. if-eq _ _ 1 1 refl refl) h
+  enters = head-group s _ at end (beaconGroupSize b) room 1 (outer.Group (at + 2) (at + 2 + beaconGroupSize b)) (omega arith) size-small (λ k. if-eq _ _ 1 1 refl refl) h
 
   at-first : Stands s first (synchronizationBytes (b .synchronization)) × Stands s second (templateBytes (b .timeslot) ++ (hoppingBytes (b .hopping) ++ slotframeBytes (b .slotframe)))
   at-first = stands-split s (synchronizationBytes (b .synchronization)) _ first 6 (length-synchronization (b .synchronization)) (enters .1)
@@ -86,7 +86,7 @@ module _ (s : List ℕ) (at end : ℕ) (b : Beacon) (sized : Sized b) (w : Withi
 
   -- ---- each of them is as it should be
   abbrev to : ℕ
-  to = at + 2 + groupSize b
+  to = at + 2 + beaconGroupSize b
 
   first-part : Part s first to 26 6 (λ seen. seen .synchronization) (b .synchronization ≡ synchronizationAt s (first + 2))
   first-part = synchronization-part s first to (b .synchronization) (w .synchronization) (omega (arith, last-is)) (at-first .0)

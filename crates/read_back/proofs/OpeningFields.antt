@@ -21,9 +21,9 @@ use Rattle.control.proofs.ControlLaws.{opened}
 use Rattle.decode.specs.Decode.{sequenceOf, sourceOf, openingOf}
 use Rattle.decode.specs.declared.Opening.{Opening}
 use Rattle.decode.proofs.DecodeLaws.{some-sequence, no-sequence, extended, short, opens}
-use Rattle.reader.specs.Read.{elementsPlace}
-use Rattle.reader.proofs.ReadLaws.{places-at}
-use Rattle.frame.specs.Frame.{suppressedBit, sequenceBytes, sourceMode, sourceBytes, controlWord, openingBytes}
+use Rattle.reading.specs.Read.{elementsPlace}
+use Rattle.reading.proofs.ReadLaws.{places-at}
+use Rattle.frame.specs.Frame.{suppressedBit, sequenceBytes, sourceMode, sourceBytes, controlWord, openingBytes, beaconOpening}
 use Rattle.frame.specs.Limits.{sequenceFits, sourceFits}
 use Rattle.frame.proofs.LengthLaws.{length-opening}
 use Rattle.read_back.proofs.Stands.{Stands, stands-at, stands-bound, stands-first, stands-rest, le-here, le-last, byte-is}
@@ -68,10 +68,10 @@ source-reads s at (Extended n) fits h = extended s 3 at n refl (le-last 8 n s at
 -- ---- the whole
 pub record Opens (s : List ℕ) (b : Beacon) : Type 0 where
   pub fine : 0 ≡ openingFault s
-  pub place : length (openingBytes b) ≡ elementsPlace s
+  pub place : length (beaconOpening b) ≡ elementsPlace s
   pub reads : _≡_ {A = Opening} (record { sequence = b .sequence; pan = b .pan; source = b .source }) (openingOf s)
 
-module _ (s : List ℕ) (b : Beacon) (w : Within b) (few : length s ≤ 125) (h : Stands s 0 (openingBytes b)) where
+module _ (s : List ℕ) (b : Beacon) (w : Within b) (few : length s ≤ 125) (h : Stands s 0 (beaconOpening b)) where
   word : Worded (b .sequence) (b .source)
   word = worded (b .sequence) (b .source)
 
@@ -94,14 +94,14 @@ module _ (s : List ℕ) (b : Beacon) (w : Within b) (few : length s ≤ 125) (h 
 
   whole : fields (b .sequence) (b .source) .elements ≤ length s
   unfolding fields
-  whole = omega (arith, stands-bound s (openingBytes b) 0 h, length-opening b)
+  whole = omega (arith, stands-bound s (beaconOpening b) 0 h, length-opening (b .sequence) (b .pan) (b .source))
 
   pub opening-reads : Opens s b
   unfolding fields written
   opening-reads = record {
     fine = opened s few (written (b .sequence) (b .source)) 0 (controlWord (b .sequence) (b .source)) (omega (arith, whole)) (control .0) (word .control) (word .form) refl
         (fields (b .sequence) (b .source)) (word .places) whole 65535 (destination .0) refl;
-    place = length-opening b ∙ places-at s (controlWord (b .sequence) (b .source)) (written (b .sequence) (b .source)) (fields (b .sequence) (b .source)) (control .0) (word .control) (word .places);
+    place = length-opening (b .sequence) (b .pan) (b .source) ∙ places-at s (controlWord (b .sequence) (b .source)) (written (b .sequence) (b .source)) (fields (b .sequence) (b .source)) (control .0) (word .control) (word .places);
     reads = opens s (controlWord (b .sequence) (b .source)) (b .pan) (written (b .sequence) (b .source)) (fields (b .sequence) (b .source)) (b .sequence) (b .source) (control .0) (word .control) (word .places)
         (sequence-reads s (b .sequence) (w .sequence) (stands-first s (sequenceBytes (b .sequence)) _ 2 (control .1))) (pan .0) (source-reads s _ (b .source) (w .source) (destination .1));
   }

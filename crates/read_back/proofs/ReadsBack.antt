@@ -9,11 +9,11 @@ use Rattle.beacon.specs.declared.Beacon.{Beacon}
 use Rattle.walk.specs.declared.Walk.{Walk}
 use Rattle.decode.specs.Decode.{decoded}
 use Rattle.decode.proofs.DecodeLaws.{decodes}
-use Rattle.reader.specs.Read.{elementsWalk, examined, readFrame}
-use Rattle.reader.specs.declared.Examination.{Examination}
-use Rattle.reader.specs.declared.ReadAnswer.{ReadAnswer}
-use Rattle.reader.proofs.ReadLaws.{faultless, examined-walk, read-done}
-use Rattle.frame.specs.Frame.{openingBytes, headerDescriptor, groupSize, groupBytes, joiningSize, joiningBytes, frameOf, frameLength}
+use Rattle.reading.specs.Read.{elementsWalk, examined, readFrame}
+use Rattle.reading.specs.declared.Examination.{Examination}
+use Rattle.reading.specs.declared.ReadAnswer.{ReadAnswer}
+use Rattle.reading.proofs.ReadLaws.{faultless, examined-walk, read-done}
+use Rattle.frame.specs.Frame.{headerDescriptor, joiningSize, joiningBytes, frameOf, frameLength, beaconGroupSize, beaconGroup, beaconOpening}
 use Rattle.frame.proofs.LengthLaws.{length-opening}
 use Rattle.read_back.specs.ReadBack.{Writable, FramesReadBack, FramesDiffer}
 use Rattle.read_back.proofs.Stands.{Stands, stands-whole, stands-first, stands-rest, stands-at}
@@ -26,26 +26,26 @@ module _ (s : List ℕ) (b : Beacon) (ok : Writable b) (is : s ≡ frameOf b) wh
   limits : Within b
   limits = within-limits b (ok .sized) (ok .within)
 
-  whole : Stands s 0 (openingBytes b ++ (headerDescriptor 126 0 ++ (groupBytes b ++ joiningBytes (b .joining))))
+  whole : Stands s 0 (beaconOpening b ++ (headerDescriptor 126 0 ++ (beaconGroup b ++ joiningBytes (b .joining))))
   unfolding frameOf
   whole = stands-whole s _ is
 
   -- ---- the two halves
   opening : Opens s b
-  opening = opening-reads s b limits (rw is (ok .short)) (stands-first s (openingBytes b) _ 0 whole)
+  opening = opening-reads s b limits (rw is (ok .short)) (stands-first s (beaconOpening b) _ 0 whole)
 
   abbrev at : ℕ
-  at = length (openingBytes b)
+  at = length (beaconOpening b)
 
-  ends : length s ≡ at + 2 + (2 + groupSize b) + ifOn (b .joining .present) (2 + joiningSize (b .joining)) 0
+  ends : length s ≡ at + 2 + (2 + beaconGroupSize b) + ifOn (b .joining .present) (2 + joiningSize (b .joining)) 0
   unfolding frameLength
-  ends = ap length is ∙ (length-is-the-formula b (ok .sized) (ok .within) ∙ omega (arith, length-opening b))
+  ends = ap length is ∙ (length-is-the-formula b (ok .sized) (ok .within) ∙ omega (arith, length-opening (b .sequence) (b .pan) (b .source)))
 
   abbrev walk : Walk
   walk = elementsWalk s at (length s)
 
   elements : Elements s b walk
-  elements = elements-read s at (length s) b (ok .sized) limits ends (stands-at s _ _ at (omega arith) (stands-rest s (openingBytes b) _ 0 whole))
+  elements = elements-read s at (length s) b (ok .sized) limits ends (stands-at s _ _ at (omega arith) (stands-rest s (beaconOpening b) _ 0 whole))
 
   -- ---- the number and the record
   examines : _≡_ {A = Examination} (record { number = 0; walk = walk }) (examined s)

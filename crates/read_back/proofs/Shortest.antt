@@ -1,8 +1,7 @@
--- The least and the greatest frame: two records, at which the checker computes. Assumes nothing.
-use Prim.Native.Nat.{ℕ, _≤_}
+-- The least and the greatest frame, and a full one that can be written: three records, at which the checker computes. Assumes nothing.
 use mathlib.Core.Path.{_≡_, refl}
 use mathlib.Core.Bool.{true, false}
-use mathlib.Core.List.{List, [], _∷_, _++_}
+use mathlib.Core.List.{[], _∷_, _++_}
 use native.Mathlib.Omega.{arith}
 use lib.ListN.{length, replicate}
 use Rattle.octets.specs.Choice.{ifOn, ifLt}
@@ -12,8 +11,8 @@ use Rattle.beacon.specs.declared.SequenceNumber.the-variants.{Absent, Number}
 use Rattle.beacon.specs.declared.Address.the-variants.{Short, Extended}
 use Rattle.beacon.specs.declared.Beacon.{Beacon}
 use Rattle.frame.specs.Frame.{suppressedBit, sequenceBytes, sourceMode, sourceBytes, controlWord, openingBytes, headerDescriptor, groupDescriptor, shortDescriptor, longDescriptor, numbersIn, synchronizationBytes, lastWidth, timingsBytes, templateSize, templateBytes, hoppingBytes, linkBytes, linksBytes, slotframeBytes, groupSize, groupBytes, joiningWord, joiningSize, joiningBytes, frameOf, frameLength}
-use Rattle.frame.specs.Limits.{all, allBelow, sequenceFits, sourceFits, synchronizationFits, templateFits, linkFits, linkUnused, slotframeFits, addressFits, presentFits, absentFits, joiningFits, fits}
-use Rattle.read_back.specs.ReadBack.{Sized, Writable, LengthsAreMet}
+use Rattle.frame.specs.Limits.{allOf, allBelow, sequenceFits, sourceFits, synchronizationFits, templateFits, linkFits, linkUnused, slotframeFits, addressFits, presentFits, absentFits, joiningFits, fits}
+use Rattle.read_back.specs.ReadBack.{Writable, LengthsAreMet, FullRecordIsWritable}
 
 -- one link, nothing that may be left out
 abbrev small : Beacon
@@ -41,8 +40,21 @@ large = record {
   joining = record { present = true; router = true; proxied = true; proxy = 127; rank = 4095; pan = 255; address = 18446744073709551615; length = 16; network = replicate 16 255 };
 }
 
+-- timings of which the last two have three bytes, three links, joining information with an address
+abbrev full : Beacon
+full = record {
+  sequence = Number 7;
+  pan = 51966;
+  source = Extended 18446744073709551615;
+  synchronization = record { asn = 1099511627775; metric = 255 };
+  timeslot = record { id = 1; timed = true; timings = replicate 10 65535 ++ (65536 ∷ 16777215 ∷ []) };
+  hopping = 3;
+  slotframe = record { handle = 1; size = 101; count = 3; links = replicate 3 (record { timeslot = 100; offset = 65535; options = 255 }) ++ replicate 13 blankLink };
+  joining = record { present = true; router = true; proxied = true; proxy = 127; rank = 4095; pan = 255; address = 18446744073709551615; length = 4; network = replicate 4 255 ++ replicate 12 0 };
+}
+
 small-writable : Writable small
-unfolding sequenceBytes suppressedBit sourceMode sourceBytes controlWord openingBytes headerDescriptor groupDescriptor shortDescriptor longDescriptor numbersIn synchronizationBytes lastWidth timingsBytes templateSize templateBytes hoppingBytes linkBytes linksBytes slotframeBytes groupSize groupBytes joiningWord joiningSize joiningBytes frameOf leBytes beBytes ifOn ifLt all allBelow sequenceFits sourceFits synchronizationFits templateFits linkFits linkUnused slotframeFits addressFits presentFits absentFits joiningFits fits
+unfolding sequenceBytes suppressedBit sourceMode sourceBytes controlWord openingBytes headerDescriptor groupDescriptor shortDescriptor longDescriptor numbersIn synchronizationBytes lastWidth timingsBytes templateSize templateBytes hoppingBytes linkBytes linksBytes slotframeBytes groupSize groupBytes joiningWord joiningSize joiningBytes frameOf leBytes beBytes ifOn ifLt allOf allBelow sequenceFits sourceFits synchronizationFits templateFits linkFits linkUnused slotframeFits addressFits presentFits absentFits joiningFits fits
 small-writable = record { sized = record { timings = refl; links = refl; network = refl }; within = refl; short = omega arith }
 
 small-38 : frameLength small ≡ 38
@@ -50,7 +62,7 @@ unfolding frameLength sequenceBytes sourceBytes leBytes groupSize templateSize j
 small-38 = refl
 
 large-fits : fits large ≡ true
-unfolding ifOn ifLt all allBelow sequenceFits sourceFits synchronizationFits templateFits linkFits linkUnused slotframeFits addressFits presentFits absentFits joiningFits fits
+unfolding ifOn ifLt allOf allBelow sequenceFits sourceFits synchronizationFits templateFits linkFits linkUnused slotframeFits addressFits presentFits absentFits joiningFits fits
 large-fits = refl
 
 large-177 : frameLength large ≡ 177
@@ -59,3 +71,11 @@ large-177 = refl
 
 pub lengths-are-met : LengthsAreMet
 lengths-are-met = ((small, small-writable, small-38), (large, large-fits, large-177))
+
+full-writable : Writable full
+unfolding sequenceBytes suppressedBit sourceMode sourceBytes controlWord openingBytes headerDescriptor groupDescriptor shortDescriptor longDescriptor numbersIn synchronizationBytes lastWidth timingsBytes templateSize templateBytes hoppingBytes linkBytes linksBytes slotframeBytes groupSize groupBytes joiningWord joiningSize joiningBytes frameOf leBytes beBytes ifOn ifLt allOf allBelow sequenceFits sourceFits synchronizationFits templateFits linkFits linkUnused slotframeFits addressFits presentFits absentFits joiningFits fits
+full-writable = record { sized = record { timings = refl; links = refl; network = refl }; within = refl; short = omega arith }
+
+pub full-record-is-writable : FullRecordIsWritable
+unfolding sourceMode
+full-record-is-writable = (full, full-writable, refl, refl, omega arith, refl, refl)

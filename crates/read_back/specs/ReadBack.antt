@@ -1,13 +1,13 @@
 -- What is written reads back (docs/RULES.md, Writing). Assumes nothing.
-use Prim.Native.Nat.{ℕ, _≤_}
+use Prim.Native.Nat.{_<_, _≤_}
 use mathlib.Core.Path.{_≡_}
 use mathlib.Core.Bool.{true}
 use lib.ListN.{length}
+use Rattle.beacon.specs.Refusal.{done}
 use Rattle.beacon.specs.declared.Beacon.{Beacon}
-use Rattle.frame.specs.Frame.{frameOf, frameLength}
+use Rattle.frame.specs.Frame.{sourceMode, frameOf, frameLength}
 use Rattle.frame.specs.Limits.{fits}
-use Rattle.reader.specs.Read.{readFrame}
-use Rattle.reader.specs.declared.ReadAnswer.{ReadAnswer}
+use Rattle.reading.specs.Read.{readFrame}
 
 -- the record's arrays have their sizes: twelve timings, sixteen links, sixteen bytes of a network ID
 pub record Sized (b : Beacon) : Type 0 where
@@ -23,7 +23,7 @@ pub record Writable (b : Beacon) : Type 0 where
 
 -- reading the frame of a record that can be written is done, and gives that record
 abbrev pub FramesReadBack : Type 0
-FramesReadBack = (b : Beacon) → Writable b → readFrame (frameOf b) ≡ record { number = 0; beacon = b }
+FramesReadBack = (b : Beacon) → Writable b → readFrame (frameOf b) ≡ record { number = done; beacon = b }
 
 -- two records that can be written and have the same frame are equal
 abbrev pub FramesDiffer : Type 0
@@ -40,3 +40,8 @@ LengthsFrom38To177 = (b : Beacon) → fits b ≡ true → (38 ≤ frameLength b)
 -- both are met, by records within the limits, and the shortest frame can be written
 abbrev pub LengthsAreMet : Type 0
 LengthsAreMet = ((b : Beacon) × Writable b × (frameLength b ≡ 38)) × ((b : Beacon) × (fits b ≡ true) × (frameLength b ≡ 177))
+
+-- what the theorems ask of a record is met by one with timings, an extended source, several links and joining information with an address
+abbrev pub FullRecordIsWritable : Type 0
+FullRecordIsWritable =
+    (b : Beacon) × Writable b × (b .timeslot .timed ≡ true) × (sourceMode (b .source) ≡ 3) × (1 < b .slotframe .count) × (b .joining .present ≡ true) × (b .joining .proxied ≡ true)

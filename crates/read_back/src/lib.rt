@@ -1,5 +1,5 @@
 // Theorems about writing and reading (specs/ReadBack.antt).
-ghost use Rattle.read_back.specs.ReadBack.{FramesReadBack, FramesDiffer, LengthIsTheFormula, LengthsFrom38To177, LengthsAreMet};
+ghost use Rattle.read_back.specs.ReadBack.{FramesReadBack, FramesDiffer, LengthIsTheFormula, LengthsFrom38To177, LengthsAreMet, FullRecordIsWritable};
 
 // Cites each theorem, so that the gate fails if the proof of one goes.
 pub fn theorems()
@@ -8,4 +8,5 @@ pub fn theorems()
     ensures length_is_the_formula { λ r. ⌜ LengthIsTheFormula ⌝ }
     ensures lengths_from_38_to_177 { λ r. ⌜ LengthsFrom38To177 ⌝ }
     ensures lengths_are_met { λ r. ⌜ LengthsAreMet ⌝ }
+    ensures full_record_is_writable { λ r. ⌜ FullRecordIsWritable ⌝ }
 {}

@@ -1,97 +1,12 @@
-// Runs a log of calls on a table, and counts what the claim that parents do not flap speaks of.
-// A log is four lent lists, one row for each call; specs/Log.antt says how a row is read.
+// Runs a log of calls on a table, and promises that parents do not flap on the numbers that it gives.
 use neighbours::Table;
-
-mod log;
-mod tally;
-
+use run_log::Outcome;
 ghost use mathlib.Core.Path.{_≡_};
-ghost use mathlib.Core.Bool.{false, true};
+ghost use mathlib.Core.Bool.{true};
 ghost use Prim.Native.Nat.{_+_, _*_, _≤_};
-ghost use lib.ListN.{length};
-ghost use Rattle.octets.specs.Choice.{ifLt};
 ghost use Rattle.stability.specs.Stability.{evaluations, noneRefused};
-ghost use Rattle.replay.specs.Log.{calls, log as logOf};
-ghost use Rattle.replay.specs.Replay.{nothing, refusedReplay, replayed};
-ghost use Rattle.replay.specs.Tally.{tally as tallyOf};
-
-// What a log comes to: the table at the end, how many evaluations there were, how many of them changed the parent, all
-// rises of the held parent's cost between one evaluation and the next, its cost on entry to the first and on exit from the
-// last, and whether the claim applies: at least one evaluation, and at each an eligible parent on entry.
-pub struct Outcome {
-    pub number: u8,
-    pub table: Table,
-    pub evaluations: u32,
-    pub changes: u32,
-    pub rises: u64,
-    pub first: u32,
-    pub last: u32,
-    pub applies: bool,
-}
-
-// Nothing counted.
-fn none(number: u8, t: Table, applies: bool) -> Outcome
-    ensures { λ r. ⌜ r ≡ nothing number t applies ⌝ }
-{
-    Outcome {
-        number,
-        table: t,
-        evaluations: 0,
-        changes: 0,
-        rises: 0,
-        first: 0,
-        last: 0,
-        applies,
-    }
-}
-
-// A refusal: the table as it was, and all counts 0.
-fn refused(t: Table) -> Outcome
-    ensures { λ r. ⌜ r ≡ refusedReplay 8 t ⌝ }
-{
-    none(beacon::refusal::OUT_OF_LIMITS, t, false)
-}
-
-// Counts over all rows.
-fn run(t: Table, kinds: &[u8], ids: &[u64], values: &[u16], flags: &[u8]) -> Outcome
-    requires { ⌜ (length (now ids) ≡ length (now kinds)) × (length (now values) ≡ length (now kinds)) × (length (now flags) ≡ length (now kinds)) × (length (now kinds) ≤ 65535) ⌝ }
-    ensures { λ r. ⌜ r ≡ tallyOf t (calls (logOf (now (kinds .entry)) (now (ids .entry)) (now (values .entry)) (now (flags .entry)))) ⌝ }
-{
-    let mut s = tally::start(t);
-    let mut i = 0;
-    while i < kinds.len() {
-        s = tally::advance(s, kinds[i], ids[i], values[i], flags[i]);
-        i += 1;
-    }
-    s
-}
-
-// Whether there was an evaluation, and each had an eligible parent on entry.
-fn counts(s: Outcome) -> bool
-    ensures { λ r. ⌜ r ≡ ifLt 0 (s .evaluations) (s .applies) false ⌝ }
-{
-    if 0 < s.evaluations {
-        return s.applies;
-    }
-    false
-}
-
-// The answer of `replay`.
-fn answer(t: Table, kinds: &[u8], ids: &[u64], values: &[u16], flags: &[u8]) -> Outcome
-    ensures { λ r. ⌜ r ≡ replayed t (logOf (now (kinds .entry)) (now (ids .entry)) (now (values .entry)) (now (flags .entry))) ⌝ }
-{
-    if neighbours::check::is_broken(t) {
-        return refused(t);
-    }
-    if log::is_unfit(kinds, ids, values, flags) {
-        return refused(t);
-    }
-    let s = run(t, kinds, ids, values, flags);
-    let applies = counts(s);
-    let mut r = s;
-    r.applies = applies;
-    r
-}
+ghost use Rattle.log.specs.Log.{calls, log as logOf};
+ghost use Rattle.run_log.specs.Replay.{replayed};
 
 // Runs a log on a table. A table that breaks a rule is refused with 8; so is a log whose lists are not equally long, that
 // has over 65535 rows, a kind over 3 or a flag over 1.
@@ -101,5 +16,5 @@ pub fn replay(t: Table, kinds: &[u8], ids: &[u64], values: &[u16], flags: &[u8])
     ensures few { λ r. ⌜ (r .applies ≡ true → r .rises ≡ 0 → r .changes ≤ 101) ⌝ }
     ensures accepted { λ r. ⌜ (r .number ≡ 0 → noneRefused (evaluations t (calls (logOf (now (kinds .entry)) (now (ids .entry)) (now (values .entry)) (now (flags .entry))))) ≡ true) ⌝ }
 {
-    answer(t, kinds, ids, values, flags)
+    run_log::run_log(t, kinds, ids, values, flags)
 }

@@ -1,23 +1,22 @@
 -- The laws of writing and reading back, in the shape in which the code meets them. Assumes nothing.
-use Prim.Native.Nat.{ℕ, zero, _≤_}
+use Prim.Native.Nat.{ℕ, _≤_}
 use mathlib.Core.Path.{_≡_, refl, sym, _∙_, ap}
 use mathlib.Core.Bool.{true}
 use mathlib.Core.List.{List, _++_}
 use native.Mathlib.Omega.{arith}
 use lib.ListN.{length, take, drop, length-append}
 use lib.Seq.{length-take-le, take-append-seam}
-use Rattle.octets.specs.Choice.{ifEq}
 use Rattle.octets.proofs.ChoiceLaws.{if-eq, if-ne}
 use Rattle.beacon.specs.Record.{blankBeacon}
 use Rattle.beacon.specs.declared.Beacon.{Beacon}
 use Rattle.frame.specs.Frame.{frameOf}
 use Rattle.frame.specs.Limits.{fits}
-use Rattle.reader.specs.Read.{readFrame}
-use Rattle.reader.specs.declared.ReadAnswer.{ReadAnswer}
-use Rattle.writer.specs.Write.{writtenNumber, writtenIn, roomAfter}
-use Rattle.writer.specs.Claims.{WriteNumbers}
-use Rattle.writer.specs.declared.Written.{Written}
-use Rattle.read_back.specs.ReadBack.{Sized, Writable}
+use Rattle.reading.specs.Read.{readFrame}
+use Rattle.reading.specs.declared.ReadAnswer.{ReadAnswer}
+use Rattle.writing.specs.Write.{writtenNumber, writtenIn, roomAfter}
+use Rattle.writing.specs.Claims.{WriteNumbers}
+use Rattle.writing.specs.declared.Written.{Written}
+use Rattle.read_back.specs.ReadBack.{Sized}
 use Rattle.read_back.proofs.ReadsBack.{frames-read-back}
 use Rattle.round_trip.specs.RoundTrip.{readAs, backFrom}
 

@@ -4,8 +4,8 @@ use Rattle.octets.specs.Choice.{ifEq}
 use Rattle.beacon.specs.Refusal.{done}
 use Rattle.beacon.specs.Record.{blankBeacon}
 use Rattle.beacon.specs.declared.Beacon.{Beacon}
-use Rattle.reader.specs.declared.ReadAnswer.{ReadAnswer}
-use Rattle.writer.specs.Write.{writtenNumber}
+use Rattle.reading.specs.declared.ReadAnswer.{ReadAnswer}
+use Rattle.writing.specs.Write.{writtenNumber}
 
 -- a reading that is done and gives this record
 abbrev pub readAs : Beacon → ReadAnswer

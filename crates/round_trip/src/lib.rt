@@ -6,9 +6,10 @@ ghost use lib.ListN.{length};
 ghost use Rattle.frame.specs.Frame.{frameOf};
 ghost use Rattle.frame.specs.Limits.{fits};
 ghost use Rattle.read_back.specs.ReadBack.{Sized};
-ghost use Rattle.writer.specs.Write.{roomAfter};
+ghost use Rattle.writing.specs.Write.{roomAfter};
 ghost use Rattle.round_trip.specs.RoundTrip.{readAs, backFrom};
 use beacon::Beacon;
+use beacon::refusal::DONE;
 use reader::ReadAnswer;
 
 // A record's arrays have their sizes by their types. The function does nothing; a proof learns it from the call.
@@ -31,7 +32,7 @@ pub fn write_and_read(room: &mut [u8], b: Beacon) -> ReadAnswer
     ensures room { λ _. ⌜ now (room .exit) ≡ roomAfter b (now (room .entry)) ⌝ }
 {
     let written = writer::write(room, b);
-    if written.number != 0 {
+    if written.number != DONE {
         return ReadAnswer {
             number: written.number,
             beacon: beacon::blank(),

@@ -11,7 +11,7 @@ use Rattle.metric.specs.declared.Place.{Place}
 use Rattle.metric.specs.Metric.{blank, eligible, pathCost}
 use Rattle.metric.proofs.MetricLaws.{eligible-used}
 use Rattle.places.specs.Places.{best, changeFirst, free, known, named, nonzero, some, twice, unfit}
-use Rattle.places.proofs.PlaceLaws.{clash, fit-limits, free-not, neither, split, unfit-not}
+use Rattle.places.proofs.PlaceLaws.{clash, fit-limits, free-not, neither, split, unfit-used}
 use Rattle.neighbours.specs.declared.Parent.{Parent}
 use Rattle.neighbours.specs.declared.Parent.the-variants.{None, Held}
 use Rattle.neighbours.specs.declared.Table.{Table}
@@ -54,7 +54,7 @@ there-kept (Held m) ps qs k h = there-known m qs (k m (held-known m ps h))
 
 -- ---- a place in use stays within its limits
 fit-used : (p : Place) → p .used ≡ true → p .attempts ≤ 255 → p .acked ≤ p .attempts → unfit p ≡ false
-fit-used p u t a = sym (unfit-not p false t a (free-not p u) refl)
+fit-used p u t a = sym (unfit-used p t a u)
 
 module _ (n : ℕ) (p : Place) (e : named n p ≡ true) (h : unfit p ≡ false) where
   rank-fit : (rank : ℕ) → unfit (withRank rank p) ≡ false

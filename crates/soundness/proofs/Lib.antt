@@ -2,3 +2,4 @@ pub mod Best
 pub mod Places
 pub mod Kept
 pub mod Chosen
+pub mod Witnesses

@@ -1,5 +1,6 @@
-// Theorems about the calls of the neighbour table (specs/Soundness.antt).
+// Theorems about the calls of the neighbour table (specs/Soundness.antt), and tables that meet their hypotheses (specs/Witness.antt).
 ghost use Rattle.soundness.specs.Soundness.{BestComesFirst, BestIsAPlace, CallsKeepTables, ChangesGain641, EvaluateKeepsPlaces, ForgetMakesRoom, OwnRank};
+ghost use Rattle.soundness.specs.Witness.{Witnessed};
 
 // Cites each theorem, so that the gate fails if the proof of one goes.
 pub fn theorems()
@@ -10,4 +11,5 @@ pub fn theorems()
     ensures changes_gain_641 { λ r. ⌜ ChangesGain641 ⌝ }
     ensures forget_makes_room { λ r. ⌜ ForgetMakesRoom ⌝ }
     ensures own_rank { λ r. ⌜ OwnRank ⌝ }
+    ensures witnessed { λ r. ⌜ Witnessed ⌝ }
 {}

@@ -16,15 +16,15 @@ use Rattle.places.specs.Places.{best}
 use Rattle.neighbours.specs.declared.Parent.{Parent}
 use Rattle.neighbours.specs.declared.Parent.the-variants.{None, Held}
 use Rattle.neighbours.specs.declared.Table.{Table}
-use Rattle.neighbours.specs.Calls.{broken, chosen, evaluated, held, heldCost, same}
+use Rattle.neighbours.specs.Calls.{broken, chosen, evaluated, held, heldCost, sameParent}
 use Rattle.soundness.proofs.Kept.{calls-keep-tables}
 use Rattle.soundness.proofs.Chosen.{changes-gain-641, eligible-after, held-cost-from}
 use Rattle.stability.specs.Stability.{AtMost101Changes, Call, NoneRefused, ParentsDoNotFlap, EntryExit, after, any, applies, changes, eachEligible, evaluations, firstCost, lastCost, noneRefused, rises}
 use Rattle.stability.specs.Stability.Call.{Advertise, Report, Forget, Evaluate}
 
 -- ---- one evaluation
-same-self : (q : Parent) → same q q ≡ true
-unfolding same
+same-self : (q : Parent) → sameParent q q ≡ true
+unfolding sameParent
 same-self None = refl
 same-self (Held n) = eq-eqb n n refl
 
@@ -34,13 +34,13 @@ one-at-most false = omega arith
 
 -- the cost falls by 641 at least where the parent changes, and never rises
 abbrev Falls : EntryExit → Type 0
-Falls v = 641 * cond (same (v .entry .parent) (v .exit .parent)) 0 1 + heldCost (v .exit) ≤ heldCost (v .entry)
+Falls v = 641 * cond (sameParent (v .entry .parent) (v .exit .parent)) 0 1 + heldCost (v .exit) ≤ heldCost (v .entry)
 
 falls : (t : Table) → eligible (held t) ≡ true → Falls (record { entry = t; exit = evaluated t .table })
 falls t e =
     ⊎-elim
-    (λ k. subst (λ (u : Table). 641 * cond (same (t .parent) (u .parent)) 0 1 + heldCost u ≤ heldCost t) (sym k) (rw (same-self (t .parent)) (omega arith)))
-    (λ k. omega (arith, one-at-most (same (t .parent) (evaluated t .table .parent)))) (changes-gain-641 t e)
+    (λ k. subst (λ (u : Table). 641 * cond (sameParent (t .parent) (u .parent)) 0 1 + heldCost u ≤ heldCost t) (sym k) (rw (same-self (t .parent)) (omega arith)))
+    (λ k. omega (arith, one-at-most (sameParent (t .parent) (evaluated t .table .parent)))) (changes-gain-641 t e)
 
 -- ---- a list
 -- a call keeps a table that is not refused so
@@ -107,13 +107,8 @@ at-most-101-changes t cs h r =
     omega arith
 
 evaluated-done : (t : Table) → broken t ≡ false → evaluated t .number ≡ 0
-unfolding evaluated chosen ifOn ifLt
-evaluated-done t h =
-    split (eligible (best (t .places)))
-    (λ e. split (eligible (held t))
-    (λ f. split (ltb 640 (pathCost (held t) - pathCost (best (t .places)))) (λ g. rw (h, e, f, g)) (λ g. rw (h, e, f, g)))
-    (λ f. rw (h, e, f)))
-    (λ e. rw (h, e))
+unfolding evaluated ifOn
+evaluated-done t h = rw h
 
 pub none-refused : NoneRefused
 unfolding evaluations noneRefused after

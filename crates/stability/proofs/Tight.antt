@@ -10,7 +10,7 @@ use Rattle.metric.specs.Metric.{blank, eligible, increment, pathCost}
 use Rattle.places.specs.Places.{bestOf, better, changeFirst, firstOf, free, named, nearer, nonzero, some, twice, unfit}
 use Rattle.neighbours.specs.declared.Parent.the-variants.{Held}
 use Rattle.neighbours.specs.declared.Table.{Table}
-use Rattle.neighbours.specs.Calls.{advertised, parentMissing, broken, chosen, evaluated, heldPlace, same}
+use Rattle.neighbours.specs.Calls.{advertised, parentMissing, broken, chosen, evaluated, heldPlace, sameParent}
 use Rattle.stability.specs.Stability.{BoundIsMet, Call, Reaches101, after, any, applies, changes, eachEligible, evaluations, firstCost, lastCost, rises}
 use Rattle.stability.specs.Stability.Call.{Advertise, Evaluate}
 
@@ -29,7 +29,7 @@ descent (suc k) rank a b = Advertise a (rank - 641) ∷ Evaluate ∷ descent k (
 
 -- 1408 held, 767 best: changed, then the new parent's cost rises by 100; and a descent from 65534 to 793
 both-run : BoundIsMet × Reaches101
-unfolding evaluations after applies any eachEligible changes rises firstCost lastCost same advertised evaluated chosen broken parentMissing heldPlace bestOf better nearer changeFirst firstOf free named nonzero some twice unfit eligible pathCost increment ifEq ifLt ifOn
+unfolding evaluations after applies any eachEligible changes rises firstCost lastCost sameParent advertised evaluated chosen broken parentMissing heldPlace bestOf better nearer changeFirst firstOf free named nonzero some twice unfit eligible pathCost increment ifEq ifLt ifOn
 both-run = (
   (pair 1152 511, Evaluate ∷ Advertise 2 611 ∷ Evaluate ∷ [], refl, (lit< tt, lit< tt, refl)),
   (pair 65278 65278, descent 101 65278 2 1, refl, refl, refl),

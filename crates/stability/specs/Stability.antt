@@ -6,7 +6,7 @@ use mathlib.Core.List.{List, [], _∷_}
 use lib.Dec.{eqb}
 use Rattle.metric.specs.Metric.{eligible}
 use Rattle.neighbours.specs.declared.Table.{Table}
-use Rattle.neighbours.specs.Calls.{advertised, broken, evaluated, forgotten, held, heldCost, reported, same}
+use Rattle.neighbours.specs.Calls.{advertised, broken, evaluated, forgotten, held, heldCost, reported, sameParent}
 
 -- a call, with what it is given besides the table
 pub data Call : Type 0 where
@@ -38,7 +38,7 @@ evaluations t (Evaluate ∷ cs) = record { entry = t; exit = after t Evaluate } 
 -- how many evaluations changed the parent
 unfoldable pub changes : List EntryExit → ℕ
 changes [] = 0
-changes (v ∷ vs) = cond (same (v .entry .parent) (v .exit .parent)) 0 1 + changes vs
+changes (v ∷ vs) = cond (sameParent (v .entry .parent) (v .exit .parent)) 0 1 + changes vs
 
 -- all rises of the held parent's cost between one evaluation and the next
 unfoldable pub rises : List EntryExit → ℕ
@@ -46,11 +46,12 @@ rises [] = 0
 rises (v ∷ []) = 0
 rises (v ∷ w ∷ vs) = (heldCost (w .entry) - heldCost (v .exit)) + rises (w ∷ vs)
 
--- the cost on entry to the first evaluation, and on exit from the last
+-- the cost on entry to the first evaluation
 unfoldable pub firstCost : List EntryExit → ℕ
 firstCost [] = 0
 firstCost (v ∷ vs) = heldCost (v .entry)
 
+-- the cost on exit from the last
 unfoldable pub lastCost : List EntryExit → ℕ
 lastCost [] = 0
 lastCost (v ∷ []) = heldCost (v .exit)

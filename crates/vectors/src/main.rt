@@ -1,8 +1,10 @@
 // Runs worked values through the library and prints one line for each; the file `stdout` beside src/ has what they must be.
 use beacon::Link;
+use beacon::TimeslotTemplate;
 use metric::Place;
 use neighbours::Parent;
 use neighbours::Table;
+use slot::SlotAnswer;
 
 fn put(name: &[u8], n: u64) {
     io::write_all(1, name);
@@ -30,8 +32,8 @@ fn action(action: u8) {
     }
 }
 
-// The decision on the first `count` links.
-fn slot(links: [Link; 16], count: usize, size: u16, id: u8, asn: u64, waits: bool) {
+// What a decision is asked for.
+fn asked(count: usize, size: u16, id: u8, asn: u64, waits: bool) {
     put(b"links ", count as u64);
     put(b" size ", size as u64);
     put(b" sequence ", id as u64);
@@ -39,12 +41,20 @@ fn slot(links: [Link; 16], count: usize, size: u16, id: u8, asn: u64, waits: boo
     if waits {
         io::write_all(1, b" waiting");
     }
-    let answer = schedule::answer(schedule::decide_listed(links, count, size, id, asn, waits));
+}
+
+fn answered(answer: SlotAnswer) {
     put(b": number ", answer.number as u64);
     action(answer.action);
     put(b" place ", answer.place as u64);
     put(b" channel ", answer.channel as u64);
     io::write_all(1, b"\n");
+}
+
+// The decision on the first `count` links.
+fn slot(links: [Link; 16], count: usize, size: u16, id: u8, asn: u64, waits: bool) {
+    asked(count, size, id, asn, waits);
+    answered(slot::answer(schedule::decide_listed(links, count, size, id, asn, waits)));
 }
 
 // The schedule of RFC 8180: one shared cell in slot 0 of a slotframe, to transmit and receive.
@@ -111,12 +121,8 @@ fn limits() {
     slot(minimal(), 1, 11, 0, 1099511627776, true);
 }
 
-// A tag at some rank: its join metric, and its child's own rank where 75 of 100 frames to it were acknowledged.
-fn hop(rank: u16) -> u16 {
-    let metric = metric::join_metric(rank);
-    put(b"rank ", rank as u64);
-    put(b" join metric number ", metric.number as u64);
-    put(b" metric ", metric.metric as u64);
+// The own rank of a child whose parent has some rank, and acknowledged 75 of 100 frames.
+fn child(rank: u16) -> u16 {
     let mut places = [metric::blank(); 32];
     places[0] = Place {
         id: 1,
@@ -125,13 +131,23 @@ fn hop(rank: u16) -> u16 {
         acked: 75,
         used: true,
     };
-    let evaluated = neighbours::evaluate(Table {
+    let evaluated = evaluate::evaluate(Table {
         places,
         parent: Parent::None,
     });
-    put(b" child's own rank ", evaluated.rank as u64);
-    io::write_all(1, b"\n");
     evaluated.rank
+}
+
+// A tag at some rank: its join metric, and its child's own rank.
+fn hop(rank: u16) -> u16 {
+    let metric = join_metric::join_metric(rank);
+    put(b"rank ", rank as u64);
+    put(b" join metric number ", metric.number as u64);
+    put(b" metric ", metric.metric as u64);
+    let own = child(rank);
+    put(b" child's own rank ", own as u64);
+    io::write_all(1, b"\n");
+    own
 }
 
 // RFC 8180's example of five hops: each adds 512.
@@ -148,20 +164,31 @@ fn wide(n: u32) -> u64 {
     n as u64
 }
 
+// Some of a record.
+fn record(asn: u64, metric: u8, size: u16, links: u8, template: TimeslotTemplate) {
+    put(b" asn ", asn);
+    put(b" metric ", metric as u64);
+    put(b" size ", size as u64);
+    put(b" links ", links as u64);
+    put(b" template ", template.id as u64);
+    put(b" timeslot length ", wide(template.timings[11]));
+    io::write_all(1, b"\n");
+}
+
 // The number of a frame and, of an accepted one, some of its record.
 fn frame(name: &[u8], s: &[u8]) {
     io::write_all(1, name);
     let answer = reader::read(s);
-    let beacon = answer.beacon;
     put(b": number ", answer.number as u64);
-    put(b" asn ", beacon.synchronization.asn);
-    put(b" metric ", beacon.synchronization.metric as u64);
-    put(b" size ", beacon.slotframe.size as u64);
-    put(b" links ", beacon.slotframe.count as u64);
-    put(b" template ", beacon.timeslot.id as u64);
-    let timeslot = beacon.timeslot;
-    put(b" timeslot length ", wide(timeslot.timings[11]));
-    io::write_all(1, b"\n");
+    let beacon = answer.beacon;
+    let template = beacon.timeslot;
+    record(
+        beacon.synchronization.asn,
+        beacon.synchronization.metric,
+        beacon.slotframe.size,
+        beacon.slotframe.count,
+        template,
+    );
 }
 
 // A beacon of 38 bytes, laid out field by field in docs/RULES.md, and cuts of it.
@@ -174,6 +201,10 @@ fn frames() {
     frame(b"minimal, cut behind the source", &minimal[..8]);
     frame(b"minimal, source cut", &minimal[..7]);
     frame(b"empty", &minimal[..0]);
+}
+
+// The longest frame that may be read, and one byte more.
+fn lengths() {
     let zeros = [0u8; 126];
     frame(b"125 zeros", &zeros[..125]);
     frame(b"126 zeros", &zeros);
@@ -202,5 +233,6 @@ fn main() {
     limits();
     hops();
     frames();
+    lengths();
     published();
 }

@@ -11,7 +11,7 @@ use lib.ListN.{getD}
 use Rattle.octets.specs.Choice.{ifLt, ifEq}
 use Rattle.octets.specs.Number.{leAt}
 use Rattle.octets.proofs.ChoiceLaws.{if-lt, if-ge, if-eq, if-ne, was-ge, was-eq, choices}
-use Rattle.verdicts.specs.Verdict.{onceOnly, syncFault, timeslotFault, hoppingFault, slotframeShape, slotframeLimits, slotframeFault, joiningFault, timeslotsFit, slotframeAt, partFault}
+use Rattle.verdicts.specs.Verdict.{onceOnly, syncFault, timeslotFault, hoppingFault, slotframeShape, slotframeLimits, slotframeFault, joiningFault, timeslotsFit, slotframeFaultAt, partFault}
 use Rattle.verdicts.specs.declared.Seen.{Seen}
 
 -- ---- the loop over the timeslots: what is left gives what the whole gives
@@ -38,24 +38,24 @@ unfolding slotframeShape
 shape-done length count links e = was-eq _ _ _ _ _ (was-eq _ _ _ _ _ (was-ge _ _ _ _ _ e (λ (z : 6 ≡ 0). omega arith) .1) (λ (z : 8 ≡ 0). omega arith) .1) (λ (z : 6 ≡ 0). omega arith) .0
 
 module _ (s : List ℕ) (from length seen : ℕ) where
-  pub frame-short : length < 5 → 6 ≡ slotframeAt s from length seen
-  unfolding slotframeAt slotframeFault slotframeShape
+  pub frame-short : length < 5 → 6 ≡ slotframeFaultAt s from length seen
+  unfolding slotframeFaultAt slotframeFault slotframeShape
   frame-short h =
       let e : slotframeShape length (getD s from 0) (getD s (from + 4) 0) ≡ 6 = sym (if-lt _ _ _ _ h refl) in
       if-ne _ _ _ _ (λ (z : slotframeShape length (getD s from 0) (getD s (from + 4) 0) ≡ 0). absurd (omega (arith, sym e ∙ z))) (sym e)
 
   module _ (count links fault : ℕ) (c : count ≡ getD s from 0) (l : links ≡ getD s (from + 4) 0) (e : fault ≡ slotframeShape length count links) where
-    pub frame-shape : (fault ≡ 0 → ⊥) → fault ≡ slotframeAt s from length seen
-    unfolding slotframeAt slotframeFault
+    pub frame-shape : (fault ≡ 0 → ⊥) → fault ≡ slotframeFaultAt s from length seen
+    unfolding slotframeFaultAt slotframeFault
     frame-shape bad = rw (← c, ← l, ← e) (if-ne _ _ fault 0 bad refl)
 
     module _ (good : fault ≡ 0) where
-      pub frame-twice : (seen ≡ 0 → ⊥) → 7 ≡ slotframeAt s from length seen
-      unfolding slotframeAt slotframeFault
+      pub frame-twice : (seen ≡ 0 → ⊥) → 7 ≡ slotframeFaultAt s from length seen
+      unfolding slotframeFaultAt slotframeFault
       frame-twice again = rw (← c, ← l, ← e) (if-eq _ _ fault 0 good (if-ne _ _ seen 0 again refl))
 
-      pub frame-limits : (size r : ℕ) (below : Bool) → seen ≡ 0 → size ≡ leAt 2 s (from + 2) → below ≡ timeslotsFit s (from + 5) links size → r ≡ slotframeLimits size links below → r ≡ slotframeAt s from length seen
-      unfolding slotframeAt slotframeFault
+      pub frame-limits : (size r : ℕ) (below : Bool) → seen ≡ 0 → size ≡ leAt 2 s (from + 2) → below ≡ timeslotsFit s (from + 5) links size → r ≡ slotframeLimits size links below → r ≡ slotframeFaultAt s from length seen
+      unfolding slotframeFaultAt slotframeFault
       frame-limits size r below once z b k = rw (← c, ← l, ← e, ← z, ← b) (if-eq _ _ fault 0 good (if-eq _ _ seen 0 once k))
 
 pub room-for-links : (from length count links fault : ℕ) → from + length < 2 ^ 64 → fault ≡ slotframeShape length count links → fault ≡ 0 → from + 5 + 5 * links < 2 ^ 64
@@ -78,9 +78,9 @@ module _ (s : List ℕ) (kind from to : ℕ) (seen : Seen) (length r : ℕ) (l :
       part-hopping k e = if-ne _ _ kind 26 no-sync (if-ne _ _ kind 28 no-timeslot (if-eq _ _ kind 137 k (rw l at e)))
 
       module _ (no-hopping : kind ≡ 137 → ⊥) where
-        pub part-slotframe : kind ≡ 27 → r ≡ slotframeAt s from length (seen .slotframe) → r ≡ partFault s kind from to seen
+        pub part-slotframe : kind ≡ 27 → r ≡ slotframeFaultAt s from (to - from) (seen .slotframe) → r ≡ partFault s kind from to seen
         unfolding partFault
-        part-slotframe k e = if-ne _ _ kind 26 no-sync (if-ne _ _ kind 28 no-timeslot (if-ne _ _ kind 137 no-hopping (if-eq _ _ kind 27 k (rw l at e))))
+        part-slotframe k e = if-ne _ _ kind 26 no-sync (if-ne _ _ kind 28 no-timeslot (if-ne _ _ kind 137 no-hopping (if-eq _ _ kind 27 k e)))
 
         module _ (no-slotframe : kind ≡ 27 → ⊥) where
           pub part-joining : (first : ℕ) → kind ≡ 258 → first ≡ getD s from 0 → r ≡ joiningFault length (seen .joining) (first / 64 % 2) → r ≡ partFault s kind from to seen

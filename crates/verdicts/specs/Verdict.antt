@@ -16,38 +16,39 @@ onceOnly seen = ifEq seen 0 done missingOrTwice
 
 -- synchronization: length 6
 unfoldable pub syncFault : ℕ → ℕ → ℕ
-syncFault length seen = ifEq length 6 (onceOnly seen) shape
+syncFault size seen = ifEq size 6 (onceOnly seen) shape
 
 -- timeslot: length 1, 25 or 27; the ID alone must be 0
 unfoldable pub timeslotFault : ℕ → ℕ → ℕ → ℕ
-timeslotFault length seen id =
-    ifEq length 25 (onceOnly seen)
-    (ifEq length 27 (onceOnly seen)
-    (ifEq length 1
+timeslotFault size seen id =
+    ifEq size 25 (onceOnly seen)
+    (ifEq size 27 (onceOnly seen)
+    (ifEq size 1
     (ifEq seen 0 (ifEq id 0 done outOfLimits) missingOrTwice)
     shape))
 
 -- hopping: length 1; length 0 is 6, longer is 8
 unfoldable pub hoppingFault : ℕ → ℕ → ℕ
-hoppingFault length seen = ifEq length 0 shape (ifEq seen 0 (ifLt 1 length outOfLimits done) missingOrTwice)
+hoppingFault size seen = ifEq size 0 shape (ifEq seen 0 (ifLt 1 size outOfLimits done) missingOrTwice)
 
 -- slotframe and link, what comes before 7: under 5 bytes (6), the slotframe count (8), a length other than 5 + 5 × links (6)
 unfoldable pub slotframeShape : ℕ → ℕ → ℕ → ℕ
-slotframeShape length count links = ifLt length 5 shape (ifEq count 1 (ifEq length (5 + 5 * links) done shape) outOfLimits)
+slotframeShape bytes count links = ifLt bytes 5 shape (ifEq count 1 (ifEq bytes (5 + 5 * links) done shape) outOfLimits)
 
 -- and what comes after it: size at least 1, 1 to 16 links, each timeslot below the size
 unfoldable pub slotframeLimits : ℕ → ℕ → Bool → ℕ
 slotframeLimits size links below = ifEq size 0 outOfLimits (ifEq links 0 outOfLimits (ifLt 16 links outOfLimits (ifOn below done outOfLimits)))
 
+-- its fault: what comes before 7, then 7 for one too many, then its limits
 unfoldable pub slotframeFault : ℕ → ℕ → ℕ → ℕ → ℕ → Bool → ℕ
-slotframeFault length seen count size links below =
-    ifEq (slotframeShape length count links) 0
+slotframeFault bytes seen count size links below =
+    ifEq (slotframeShape bytes count links) done
     (ifEq seen 0 (slotframeLimits size links below) missingOrTwice)
-    (slotframeShape length count links)
+    (slotframeShape bytes count links)
 
 -- joining information, behind its subtype: four bytes, eight of an address if P, 0 to 16 of a network ID
 unfoldable pub joiningFault : ℕ → ℕ → ℕ → ℕ
-joiningFault length seen proxied = ifLt length (4 + 8 * proxied) shape (ifLt (4 + 8 * proxied + 16) length shape (onceOnly seen))
+joiningFault size seen proxied = ifLt size (4 + 8 * proxied) shape (ifLt (4 + 8 * proxied + 16) size shape (onceOnly seen))
 
 -- the timeslots of n links from a place on are below a size
 unfoldable pub timeslotsFit : List ℕ → ℕ → ℕ → ℕ → Bool
@@ -55,35 +56,39 @@ timeslotsFit s at zero size = true
 timeslotsFit s at (suc n) size = ltb (leAt 2 s at) size && timeslotsFit s (at + 5) n size
 
 -- a slotframe and link element that starts at `from`: slotframe count, handle, size (2 bytes), number of links, then five bytes a link
-unfoldable pub slotframeAt : List ℕ → ℕ → ℕ → ℕ → ℕ
-slotframeAt s from length seen =
+unfoldable pub slotframeFaultAt : List ℕ → ℕ → ℕ → ℕ → ℕ
+slotframeFaultAt s from bytes seen =
     let links : ℕ = getD s (from + 4) 0 in
     let size : ℕ = leAt 2 s (from + 2) in
-    slotframeFault length seen (getD s from 0) size links (timeslotsFit s (from + 5) links size)
+    slotframeFault bytes seen (getD s from 0) size links (timeslotsFit s (from + 5) links size)
 
--- kinds of known elements: short sub-elements 0x1A, 0x1B and 0x1C, the long sub-element 0x9, IETF subtype 2
+-- kinds of known elements: the short sub-element 0x1A
 abbrev pub synchronizationKind : ℕ
 synchronizationKind = 26
 
+-- the short sub-element 0x1B
 abbrev pub slotframeKind : ℕ
 slotframeKind = 27
 
+-- the short sub-element 0x1C
 abbrev pub timeslotKind : ℕ
 timeslotKind = 28
 
+-- the long sub-element 0x9
 abbrev pub hoppingKind : ℕ
 hoppingKind = 128 + 9
 
+-- IETF subtype 2
 abbrev pub joiningKind : ℕ
 joiningKind = 256 + 2
 
 -- the fault of an element of a kind that lies from a place to another; P is bit 6 of joining information's first byte
 unfoldable pub partFault : List ℕ → ℕ → ℕ → ℕ → Seen → ℕ
 partFault s kind from to seen =
-    let length : ℕ = to - from in
-    ifEq kind synchronizationKind (syncFault length (seen .synchronization))
-    (ifEq kind timeslotKind (timeslotFault length (seen .timeslot) (getD s from 0))
-    (ifEq kind hoppingKind (hoppingFault length (seen .hopping))
-    (ifEq kind slotframeKind (slotframeAt s from length (seen .slotframe))
-    (ifEq kind joiningKind (joiningFault length (seen .joining) (getD s from 0 / 64 % 2))
+    let size : ℕ = to - from in
+    ifEq kind synchronizationKind (syncFault size (seen .synchronization))
+    (ifEq kind timeslotKind (timeslotFault size (seen .timeslot) (getD s from 0))
+    (ifEq kind hoppingKind (hoppingFault size (seen .hopping))
+    (ifEq kind slotframeKind (slotframeFaultAt s from size (seen .slotframe))
+    (ifEq kind joiningKind (joiningFault size (seen .joining) (getD s from 0 / 64 % 2))
     done))))

@@ -4,6 +4,7 @@ use Prim.Native.Nat.{ℕ, zero, suc, _+_, _-_, _*_, _<_}
 use mathlib.Core.Path.{_≡_}
 use mathlib.Core.List.{List}
 use Rattle.octets.specs.Choice.{ifLt, ifEq}
+use Rattle.beacon.specs.Refusal.{done}
 use Rattle.verdicts.specs.Verdict.{partFault, synchronizationKind, timeslotKind, hoppingKind, slotframeKind, joiningKind}
 use Rattle.verdicts.specs.declared.Seen.{Seen}
 use Rattle.elements.specs.Header.{headerAt}
@@ -77,50 +78,55 @@ stopped w fault at = record {
 unfoldable pub partTaken : List ℕ → Walk → ℕ → ℕ → ℕ → ℕ → Walk
 partTaken s w kind from to at =
     let fault : ℕ = partFault s kind from to (seenOf w) in
-    ifEq fault 0 (taken w kind from to) (stopped w fault at)
+    ifEq fault done (taken w kind from to) (stopped w fault at)
 
 -- how the header list ends: elements are skipped, and payload elements follow, or none do, or there is a fault
 unfoldable pub headerGo : ℕ → List ℕ → ℕ → ℕ → ℕ → Headed
-headerGo zero s at end skipped = record { fault = 0; faulty = 0; skipped = skipped; payload = 0 }
+headerGo zero s at end skipped = record { fault = done; faulty = 0; skipped = skipped; payload = 0 }
 headerGo (suc bound) s at end skipped =
     elim (headerAt s at end) [
-      | header.End ↦ record { fault = 0; faulty = 0; skipped = skipped; payload = 0 }
-      | header.Payload from ↦ record { fault = 0; faulty = 0; skipped = skipped; payload = from }
+      | header.End ↦ record { fault = done; faulty = 0; skipped = skipped; payload = 0 }
+      | header.Payload from ↦ record { fault = done; faulty = 0; skipped = skipped; payload = from }
       | header.Element id from to ↦ headerGo bound s to end (bump skipped)
       | header.Fault number ↦ record { fault = number; faulty = at; skipped = skipped; payload = 0 }
     ]
 
+-- the header list from a place to an end
 unfoldable pub headerList : List ℕ → ℕ → ℕ → Headed
 headerList s at end = headerGo (suc end) s at end 0
 
 -- from the outer list into a group, and back to the outer list at the group's end
 unfoldable mutual
+  -- the payload list from a place on
   pub outerGo : ℕ → List ℕ → ℕ → ℕ → Walk → Walk
   outerGo zero s at end w = w
   outerGo (suc bound) s at end w =
       elim (outerAt s at end) [
         | outer.End ↦ w
         | outer.Group from to ↦ groupGo bound s from to end w
-        | outer.Joining from to ↦ let t : Walk = partTaken s w joiningKind from to at in ifEq (t .fault) 0 (outerGo bound s to end t) t
+        | outer.Joining from to ↦ let t : Walk = partTaken s w joiningKind from to at in ifEq (t .fault) done (outerGo bound s to end t) t
         | outer.Skip to ↦ outerGo bound s to end (skipOne w)
         | outer.Fault number ↦ stopped w number at
       ]
 
+  -- a group from a place of it to its end, and behind it the payload list
   pub groupGo : ℕ → List ℕ → ℕ → ℕ → ℕ → Walk → Walk
   groupGo zero s at to end w = w
   groupGo (suc bound) s at to end w =
       elim (innerAt s at to) [
         | inner.Back ↦ outerGo bound s to end w
-        | inner.Part kind from next ↦ let t : Walk = partTaken s w kind from next at in ifEq (t .fault) 0 (groupGo bound s next to end t) t
+        | inner.Part kind from next ↦ let t : Walk = partTaken s w kind from next at in ifEq (t .fault) done (groupGo bound s next to end t) t
         | inner.Fault number ↦ stopped w number at
       ]
 
--- what the lists give, whatever the bound is, if it is large enough
+-- what the payload list gives, whatever the bound is, if it is large enough
 unfoldable pub OuterIs : List ℕ → ℕ → ℕ → Walk → Walk → Type 0
 OuterIs s at end w r = (bound : ℕ) → 2 * (end - at) < bound → r ≡ outerGo bound s at end w
 
+-- the same of a group
 unfoldable pub GroupIs : List ℕ → ℕ → ℕ → ℕ → Walk → Walk → Type 0
 GroupIs s at to end w r = (bound : ℕ) → 2 * (end - at) + 1 < bound → r ≡ groupGo bound s at to end w
 
+-- the payload list from a place to an end, with what was noted before
 unfoldable pub payloadList : List ℕ → ℕ → ℕ → Walk → Walk
 payloadList s at end w = outerGo (suc (2 * end)) s at end w

@@ -1,11 +1,12 @@
 -- Each theorem that `accepted::theorems` cites is proved. Assumes nothing.
 use Rattle.accepted.proofs.Fits.{accepted-fits}
 use Rattle.accepted.proofs.NotLonger.{written-is-not-longer, written-is-short}
+use Rattle.accepted.proofs.Witness.{shortest-is-written-back}
 use Rattle.accepted.proofs.theorems.Statement.{statement}
 use Rattle.accepted.proofs.theorems.Tie as tie
 
 returns : tie.Need-returns
-returns c = (accepted-fits, (written-is-not-longer, written-is-short))
+returns c = (accepted-fits, (written-is-not-longer, (written-is-short, shortest-is-written-back)))
 
 pub theorems-spec : {M : Type 1} → statement M
 theorems-spec = tie.close (tie.spec returns)

@@ -6,8 +6,11 @@ use Rattle.beacon.proofs.blank.Tie as tie
 blank-link-requires : tie.Need-blank-link-requires
 blank-link-requires c κs = search needs
 
+blank-joining-requires : tie.Need-blank-joining-requires
+blank-joining-requires c κs = search needs
+
 returns : tie.Need-returns
-returns c = rw (c .blank-link .ensures)
+returns c = rw (c .before .blank-link .ensures, c .blank-joining .ensures)
 
 pub blank-spec : {M : Type 1} → statement M
-blank-spec = tie.close (tie.spec blank-link-requires returns)
+blank-spec = tie.close (tie.spec blank-link-requires blank-joining-requires returns)

@@ -39,23 +39,23 @@ use denote.Triple.Walked.{says, Stays, stay-none, stay-none-slice, walkOf, AllGo
 use denote.Exit.{yes}
 use Rattle.beacon.specs.declared.Link.{Link}
 use Rattle.beacon.proofs.Link as L
-use Rattle.schedule.specs.Slot.{decision}
-use Rattle.schedule.specs.Answer.{answerOf}
-use Rattle.schedule.specs.declared.Decision.{Decision}
-use Rattle.schedule.specs.declared.SlotAnswer.{SlotAnswer}
-use Rattle.schedule.proofs.Calling.{result-known}
-use Rattle.schedule.proofs.Decision as D
-use Rattle.schedule.proofs.Decision.Laws as D′
-use Rattle.schedule.proofs.SlotAnswer as R
-use Rattle.schedule.proofs.SlotAnswer.Laws as R′
+use Rattle.slot.specs.Slot.{decision}
+use Rattle.slot.specs.Answer.{answerOf}
+use Rattle.slot.specs.declared.Decision.{Decision}
+use Rattle.slot.specs.declared.SlotAnswer.{SlotAnswer}
+use Rattle.slot.proofs.Calling.{result-known}
+use Rattle.slot.proofs.Decision as D
+use Rattle.slot.proofs.Decision.Laws as D′
+use Rattle.slot.proofs.SlotAnswer as R
+use Rattle.slot.proofs.SlotAnswer.Laws as R′
 use Rattle.schedule.proofs.decide as decide
 use Rattle.schedule.proofs.decide.Symbol as decide-def
 use Rattle.schedule.proofs.decide.Symbol.{name as #schedule·decide}
 use Rattle.schedule.proofs.decide.Met as decide-thm
-use Rattle.schedule.proofs.answer as answer
-use Rattle.schedule.proofs.answer.Symbol as answer-def
-use Rattle.schedule.proofs.answer.Symbol.{name as #schedule·answer}
-use Rattle.schedule.proofs.answer.Met as answer-thm
+use Rattle.slot.proofs.answer as answer
+use Rattle.slot.proofs.answer.Symbol as answer-def
+use Rattle.slot.proofs.answer.Symbol.{name as #slot·answer}
+use Rattle.slot.proofs.answer.Met as answer-thm
 use Rattle.ffi_slot.proofs.tesolvagna_decide.Key.{name as #ffi_slot·tesolvagna-decide}
 use Rattle.ffi_slot.proofs.tesolvagna_decide as this
 use Rattle.ffi_slot.proofs.tesolvagna_decide.Statement as stated
@@ -126,7 +126,7 @@ module _ {M : Type 1} (𝓤 : URA M) (H : Heap 𝓤) (A : Atoms 𝓤) (W : Given
   goes-answer : (d : Decision) (u : Val) → Is D.the-row d (u ∷ []) → ent 𝓤 (emp 𝓤) (Answers 𝓤 H A mem run .pre (to-answer d u))
   goes-answer d u is = qed W [] ∵ nothing ! $ owned ! D.the-row (Is D.the-row) (EL.makes D.the-type D′.the-plain 𝓤 H A) d (u ∷ []) is $ fjoin ! $ nothing ! $ join ! $ frame ! $ done !
 
-  module _ (𝓣 : Tables 𝓤 H) (known-decide : Triple 𝓤 (𝓣 .C #schedule·decide) (Decide 𝓤 H A mem run)) (known-answer : Triple 𝓤 (𝓣 .C #schedule·answer) (Answers 𝓤 H A mem run)) where
+  module _ (𝓣 : Tables 𝓤 H) (known-decide : Triple 𝓤 (𝓣 .C #schedule·decide) (Decide 𝓤 H A mem run)) (known-answer : Triple 𝓤 (𝓣 .C #slot·answer) (Answers 𝓤 H A mem run)) where
     fm : FmC 𝓤 H (W .laws) (𝓣 .C)
     fm = fmOf 𝓤 H (W .laws) 𝓣
 
@@ -149,7 +149,7 @@ module _ {M : Type 1} (𝓤 : URA M) (H : Heap 𝓤) (A : Atoms 𝓤) (W : Given
         by ! (exits r v (f ∙ ap answerOf e)))))))))))))
 
 module _ {M : Type 1} (𝓤 : URA M) (H : Heap 𝓤) (A : Atoms 𝓤) (W : Given 𝓤 H A) (mem : Memory → SProp 𝓤) (run : Routine → Fun 𝓤) (𝓣 : Tables 𝓤 H)
-    (known-decide : Triple 𝓤 (𝓣 .C #schedule·decide) (Decide 𝓤 H A mem run)) (known-answer : Triple 𝓤 (𝓣 .C #schedule·answer) (Answers 𝓤 H A mem run)) where
+    (known-decide : Triple 𝓤 (𝓣 .C #schedule·decide) (Decide 𝓤 H A mem run)) (known-answer : Triple 𝓤 (𝓣 .C #slot·answer) (Answers 𝓤 H A mem run)) where
   walks : Walks 𝓤 H A this.ended stayed (WpFn 𝓤 H (𝓣 .C) (𝓣 .Λ) code.function) (this.clauses 𝓤 H A mem run)
   walks = walked 𝓤 H A this.ended stayed (this.clauses 𝓤 H A mem run) (WpFn 𝓤 H (𝓣 .C) (𝓣 .Λ) code.function)
       (λ κs. (slice-vals, (uint-vals w16, (uint-vals w8, (uint-vals w64, (bool-vals, tt)))))) (λ κs. (shr-slice-tells (named 0) (κs .0) L.the-row, (uint-tells w16, (uint-tells w8, (uint-tells w64, (bool-tells, tt))))))
@@ -170,4 +170,4 @@ tesolvagna-decide-spec 𝓤 H 𝓜 𝓖 𝓡 =
     (tables 𝓤 H 𝓜 𝓡 code.env .C) (tables 𝓤 H 𝓜 𝓡 code.env .Λ) #ffi_slot·tesolvagna-decide code.function (code.unfolded 𝓤 H 𝓜 𝓡)
     (meets 𝓤 H (𝓖 .A) (givenOf 𝓤 H 𝓜 𝓖) (𝓜 .mem) (𝓡 .run) (tablesOf 𝓤 H 𝓜 (tables 𝓤 H 𝓜 𝓡 code.env))
     (cited 𝓤 H (Decide 𝓤 H (𝓖 .A) (𝓜 .mem) (𝓡 .run)) 𝓜 𝓡 code.env #schedule·decide decide-def.routine code.calls-schedule·decide (decide-thm.met 𝓤 H 𝓜 𝓖 𝓡))
-    (cited 𝓤 H (Answers 𝓤 H (𝓖 .A) (𝓜 .mem) (𝓡 .run)) 𝓜 𝓡 code.env #schedule·answer answer-def.routine code.calls-schedule·answer (answer-thm.met 𝓤 H 𝓜 𝓖 𝓡)))
+    (cited 𝓤 H (Answers 𝓤 H (𝓖 .A) (𝓜 .mem) (𝓡 .run)) 𝓜 𝓡 code.env #slot·answer answer-def.routine code.calls-slot·answer (answer-thm.met 𝓤 H 𝓜 𝓖 𝓡)))

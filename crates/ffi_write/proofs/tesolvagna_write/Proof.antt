@@ -20,14 +20,14 @@ returns : tie.Need-returns
 returns c =
     let wrote = c .before .before in
     let told = wrote .before .before .before in
-    let a = told .before .before .before .args in
-    flat-written (a .numbers .now) (a .timings .now) (a .links .now) (a .network .now) (a .room .now) _ (told .before .read .ensures) _ (told .is-laid-out .ensures) _ _ (wrote .before .before .if1 .taken) (wrote .write .ensures .0) (wrote .write .ensures .1 .0)
+    let a = told .before .before .before .before .before .before .before .args in
+    flat-written (a .numbers .now) (a .timings .now) (a .links .now) (a .network .now) (a .room .now) _ (told .before .read .ensures) _ (told .is-laid-out .ensures .0) _ _ (wrote .before .before .if1 .taken) (wrote .write .ensures .0) (wrote .write .ensures .1 .0)
 
 returns-2 : tie.Need-returns-2
 returns-2 c =
     let told = c .before in
-    let a = told .before .before .before .args in
-    flat-refused (a .numbers .now) (a .timings .now) (a .links .now) (a .network .now) (a .room .now) _ (told .before .read .ensures) _ (told .is-laid-out .ensures) (c .if1 .left)
+    let a = told .before .before .before .before .before .before .before .args in
+    flat-refused (a .numbers .now) (a .timings .now) (a .links .now) (a .network .now) (a .room .now) _ (told .before .read .ensures) _ (told .is-laid-out .ensures .0) (c .if1 .left)
 
 pub tesolvagna-write-spec : {M : Type 1} → statement M
 tesolvagna-write-spec =

@@ -7,8 +7,14 @@ use Rattle.mlme.proofs.put_group_rest.Tie as tie
 returns : tie.Need-returns
 returns c = search (needs, grouping)
 
-put-hopping-requires : tie.Need-put-hopping-requires
-put-hopping-requires c κs = search needs
+mul-put-le : tie.Need-mul-put-le
+mul-put-le c = search needs
+
+add-put-le : tie.Need-add-put-le
+add-put-le c = search needs
+
+put-le-requires : tie.Need-put-le-requires
+put-le-requires c κs = search needs
 
 add-put-slotframe : tie.Need-add-put-slotframe
 add-put-slotframe c = search needs
@@ -27,7 +33,9 @@ put-group-rest-spec =
     tie.close
     (tie.spec
     returns
-    put-hopping-requires
+    mul-put-le
+    add-put-le
+    put-le-requires
     add-put-slotframe
     put-slotframe-requires
     same-length

@@ -13,17 +13,17 @@ group-size-requires c κs = search needs
 add-put-le : tie.Need-add-put-le
 add-put-le c = search needs
 
-add-put-le-2 : tie.Need-add-put-le-2
-add-put-le-2 c = search needs
-
 put-le-requires : tie.Need-put-le-requires
 put-le-requires c κs = search needs
 
-add-put-synchronization : tie.Need-add-put-synchronization
-add-put-synchronization c = search needs
+add-put-le-2 : tie.Need-add-put-le-2
+add-put-le-2 c = search needs
 
-put-synchronization-requires : tie.Need-put-synchronization-requires
-put-synchronization-requires c κs = search needs
+synchronization-number-requires : tie.Need-synchronization-number-requires
+synchronization-number-requires c κs = search needs
+
+put-le-requires-2 : tie.Need-put-le-requires-2
+put-le-requires-2 c κs = search needs
 
 add-put-template : tie.Need-add-put-template
 add-put-template c = search needs
@@ -44,10 +44,10 @@ put-group-start-spec =
     returns
     group-size-requires
     add-put-le
-    add-put-le-2
     put-le-requires
-    add-put-synchronization
-    put-synchronization-requires
+    add-put-le-2
+    synchronization-number-requires
+    put-le-requires-2
     add-put-template
     put-template-requires
     same-length

@@ -1,12 +1,12 @@
 -- Each theorem that `read_back::theorems` cites is proved. Assumes nothing.
 use Rattle.read_back.proofs.FrameLengths.{length-is-the-formula, lengths-from-38-to-177}
 use Rattle.read_back.proofs.ReadsBack.{frames-read-back, frames-differ}
-use Rattle.read_back.proofs.Shortest.{lengths-are-met}
+use Rattle.read_back.proofs.Shortest.{lengths-are-met, full-record-is-writable}
 use Rattle.read_back.proofs.theorems.Statement.{statement}
 use Rattle.read_back.proofs.theorems.Tie as tie
 
 returns : tie.Need-returns
-returns c = (frames-read-back, (frames-differ, (length-is-the-formula, (lengths-from-38-to-177, lengths-are-met))))
+returns c = (frames-read-back, (frames-differ, (length-is-the-formula, (lengths-from-38-to-177, (lengths-are-met, full-record-is-writable)))))
 
 pub theorems-spec : {M : Type 1} → statement M
 theorems-spec = tie.close (tie.spec returns)

@@ -1,5 +1,5 @@
 -- `round_trip::sized` meets its contract. Assumes nothing.
-use Rattle.frame.proofs.LimitLaws.{length-mapped}
+use Rattle.frame.proofs.RangeLaws.{length-mapped}
 use Rattle.round_trip.proofs.RoundTripLaws.{sizes}
 use borrow.Author.Needs.{needs}
 use Rattle.round_trip.proofs.sized.Statement.{statement}

@@ -1,5 +1,5 @@
 -- `schedule::begin` meets its contract. Assumes nothing.
-use Rattle.schedule.proofs.SlotLaws.{slots}
+use Rattle.slot.proofs.SlotLaws.{slots}
 use borrow.Author.Needs.{needs}
 use Rattle.schedule.proofs.begin.Statement.{statement}
 use Rattle.schedule.proofs.begin.Tie as tie

@@ -2,8 +2,9 @@
 use Prim.Native.Nat.{_≤_}
 use mathlib.Core.Path.{_≡_}
 use lib.ListN.{length, take, drop}
-use Rattle.schedule.specs.Scan.{begun, scanned}
-use Rattle.schedule.proofs.Scanned.{listed-over, listed-begin, listed-turn, listed-end}
+use Rattle.slot.specs.Scan.{begun}
+use Rattle.slot.proofs.Scanned.{scanned}
+use Rattle.slot.proofs.Scanned.{listed-over, listed-begin, listed-turn, listed-end}
 use borrow.Author.Needs.{needs}
 use Rattle.schedule.proofs.decide_listed.Statement.{statement}
 use Rattle.schedule.proofs.decide_listed.Tie as tie

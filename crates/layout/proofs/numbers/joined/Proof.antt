@@ -1,5 +1,5 @@
 -- `layout::numbers::joined` meets its contract. Assumes nothing.
-use Rattle.layout.proofs.LayoutLaws.{laying}
+use Rattle.layout.proofs.JoinedLaws.{joined-are}
 use borrow.Author.Needs.{needs}
 use Rattle.layout.proofs.numbers.joined.Statement.{statement}
 use Rattle.layout.proofs.numbers.joined.Tie as tie
@@ -68,7 +68,7 @@ array-read-t69 : tie.Need-array-read-t69
 array-read-t69 c = search needs
 
 returns : tie.Need-returns
-returns c = search (needs, laying)
+returns c = search (needs, joined-are)
 
 pub joined-spec : {M : Type 1} → statement M
 joined-spec =

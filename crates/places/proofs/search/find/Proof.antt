@@ -1,22 +1,22 @@
--- `places::search::find` meets its contract. The invariant: the number passed and where the neighbour stands in what is left give where it stands in the whole. Assumes nothing.
-use Prim.Native.Nat.{_+_, _-_, _≤_}
+-- `places::search::find` meets its contract. The invariant: from here on the neighbour stands where it stands from the start on. Assumes nothing.
+use Prim.Native.Nat.{_-_}
 use mathlib.Core.Path.{_≡_}
-use lib.ListN.{length, drop}
+use lib.ListN.{length}
 use Rattle.places.specs.Places.{named}
-use Rattle.places.specs.Search.{first}
-use Rattle.places.proofs.PlaceLaws.{placeWays}
+use Rattle.places.specs.Search.{firstFrom}
+use Rattle.places.proofs.PlaceLaws.{searchWays}
 use borrow.Author.Needs.{needs}
 use Rattle.places.proofs.search.find.Statement.{statement}
 use Rattle.places.proofs.search.find.Tie as tie
 
 abbrev Inv-loop : tie.InvT-loop
-Inv-loop id ps i₀ i = (i ≤ 32) × (length ps ≡ 32) × (i + first (named id) (drop i ps) ≡ first (named id) ps)
+Inv-loop from id ps i₀ i = (length ps ≡ 32) × (firstFrom (named id) i ps ≡ firstFrom (named id) from ps)
 
 abbrev μ-loop : tie.MeasureT-loop
-μ-loop id ps i₀ i = 32 - i
+μ-loop from id ps i₀ i = 32 - i
 
 loop-holds : tie.Need-loop-holds Inv-loop μ-loop
-loop-holds c = search (needs, placeWays)
+loop-holds c = search (needs, searchWays)
 
 mul-is-named : tie.Need-mul-is-named Inv-loop μ-loop
 mul-is-named c = search needs
@@ -28,7 +28,7 @@ is-named-requires : tie.Need-is-named-requires Inv-loop μ-loop
 is-named-requires c κs = search needs
 
 returns : tie.Need-returns Inv-loop μ-loop
-returns c = search (needs, placeWays)
+returns c = search (needs, searchWays)
 
 add-i : tie.Need-add-i Inv-loop μ-loop
 add-i c = search needs
@@ -37,10 +37,10 @@ loop-less : tie.Need-loop-less Inv-loop μ-loop
 loop-less c = search needs
 
 loop-again : tie.Need-loop-again Inv-loop μ-loop
-loop-again c = search (needs, placeWays)
+loop-again c = search (needs, searchWays)
 
 returns-2 : tie.Need-returns-2 Inv-loop μ-loop
-returns-2 c = search (needs, placeWays)
+returns-2 c = search (needs, searchWays)
 
 pub find-spec : {M : Type 1} → statement M
 find-spec =

@@ -1,14 +1,14 @@
 -- `places::search::is_free` meets its contract. Assumes nothing.
-use Rattle.places.proofs.PlaceLaws.{placeWays}
+use Rattle.places.proofs.PlaceLaws.{searchWays}
 use borrow.Author.Needs.{needs}
 use Rattle.places.proofs.search.is_free.Statement.{statement}
 use Rattle.places.proofs.search.is_free.Tie as tie
 
 returns : tie.Need-returns
-returns c = search (needs, placeWays)
+returns c = search (needs, searchWays)
 
 returns-2 : tie.Need-returns-2
-returns-2 c = search (needs, placeWays)
+returns-2 c = search (needs, searchWays)
 
 pub is-free-spec : {M : Type 1} → statement M
 is-free-spec = tie.close (tie.spec returns returns-2)

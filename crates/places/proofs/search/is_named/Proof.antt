@@ -1,14 +1,14 @@
 -- `places::search::is_named` meets its contract. Assumes nothing.
-use Rattle.places.proofs.PlaceLaws.{placeWays}
+use Rattle.places.proofs.PlaceLaws.{searchWays}
 use borrow.Author.Needs.{needs}
 use Rattle.places.proofs.search.is_named.Statement.{statement}
 use Rattle.places.proofs.search.is_named.Tie as tie
 
 returns : tie.Need-returns
-returns c = search (needs, placeWays)
+returns c = search (needs, searchWays)
 
 returns-2 : tie.Need-returns-2
-returns-2 c = search (needs, placeWays)
+returns-2 c = search (needs, searchWays)
 
 pub is-named-spec : {M : Type 1} → statement M
 is-named-spec = tie.close (tie.spec returns returns-2)

@@ -1,0 +1,15 @@
+-- `examine::blank_walk` meets its contract. Assumes nothing.
+use Rattle.reading.specs.Read.{blankWalk}
+use borrow.Author.Needs.{needs}
+use Rattle.examine.proofs.blank_walk.Statement.{statement}
+use Rattle.examine.proofs.blank_walk.Tie as tie
+
+headed-walk-requires : tie.Need-headed-walk-requires
+headed-walk-requires c κs = search needs
+
+returns : tie.Need-returns
+unfolding blankWalk
+returns c = c .headed-walk .ensures
+
+pub blank-walk-spec : {M : Type 1} → statement M
+blank-walk-spec = tie.close (tie.spec headed-walk-requires returns)

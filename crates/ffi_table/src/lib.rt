@@ -1,2 +1,0 @@
-// The neighbour table for C and Rust (include/tesolvagna.h).
-pub mod table;

@@ -1,0 +1,4 @@
+pub mod FixedLaws
+pub mod NumbersLaws
+pub mod ArrayLaws
+pub mod FrameLaws

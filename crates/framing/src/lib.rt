@@ -1,0 +1,47 @@
+// The frame of a record, put at the start of a lent room; past its end nothing is stored.
+ghost use mathlib.Core.Path.{_≡_};
+ghost use mathlib.Core.List.{_++_};
+ghost use Prim.Native.Nat.{_+_, _≤_};
+ghost use lib.ListN.{length};
+ghost use Rattle.octets.specs.Number.{stored};
+ghost use Rattle.frame.specs.Frame.{headerDescriptor, joiningBytes, beaconGroup, frameOf};
+use beacon::Beacon;
+
+// The bytes of the header list's terminator and of the MLME group, in which sixteen links at most are written.
+fn before_joining(b: Beacon) -> usize
+    ensures { λ r. ⌜ (r ≡ 2 + length (beaconGroup b)) × (r ≤ 1326) ⌝ }
+{
+    let used = frame::at_most_16(b.slotframe.count);
+    4 + group_sizes::group_size(b.timeslot, used as u8)
+}
+
+// The elements: the header list's terminator, the MLME group, joining information.
+fn put_elements(room: &mut [u8], at: usize, b: Beacon)
+    ensures { λ _. ⌜ now (room .exit) ≡ stored (now (room .entry)) at (headerDescriptor 126 0 ++ (beaconGroup b ++ joiningBytes (b .joining))) ⌝ }
+{
+    if room.len() <= at {
+        return;
+    }
+    let size = before_joining(b);
+    put_octets::put_le(room, at, 2, 16128);
+    mlme::put_group(
+        room,
+        at + 2,
+        b.synchronization,
+        b.timeslot,
+        b.hopping,
+        b.slotframe,
+    );
+    joining::put_joining(room, at + size, b.joining);
+}
+
+// The frame at the room's start.
+pub fn put_frame(room: &mut [u8], b: Beacon)
+    ensures { λ _. ⌜ now (room .exit) ≡ stored (now (room .entry)) 0 (frameOf b) ⌝ }
+{
+    let sequence = b.sequence;
+    let source = b.source;
+    let at = 6 + sizes::sequence_size(sequence) + sizes::source_size(source);
+    opening::put_opening(room, sequence, b.pan, source);
+    put_elements(room, at, b);
+}

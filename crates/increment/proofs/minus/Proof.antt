@@ -1,0 +1,13 @@
+-- `increment::minus` meets its contract. Assumes nothing.
+use borrow.Author.Needs.{needs}
+use Rattle.increment.proofs.minus.Statement.{statement}
+use Rattle.increment.proofs.minus.Tie as tie
+
+returns : tie.Need-returns
+returns c = search needs
+
+returns-2 : tie.Need-returns-2
+returns-2 c = search needs
+
+pub minus-spec : {M : Type 1} → statement M
+minus-spec = tie.close (tie.spec returns returns-2)

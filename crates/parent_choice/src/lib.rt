@@ -1,0 +1,49 @@
+// The choice of the parent between the held one and the best one. The rules are those of docs/RULES.md, Neighbours.
+use metric::Place;
+use neighbours::Choice;
+use neighbours::Parent;
+ghost use mathlib.Core.Path.{_≡_};
+ghost use mathlib.Core.Bool.{true};
+ghost use Rattle.metric.specs.Metric.{eligible, pathCost};
+ghost use Rattle.neighbours.specs.Calls.{choiceOf, chosen};
+
+// The cost of an eligible place, which fits a rank.
+fn own_rank(p: Place) -> u16
+    requires { ⌜ eligible p ≡ true ⌝ }
+    ensures { λ r. ⌜ r ≡ pathCost p ⌝ }
+{
+    path_cost::path_cost(p) as u16
+}
+
+// A place's neighbour becomes the parent.
+fn take(p: Place) -> Choice
+    requires { ⌜ eligible p ≡ true ⌝ }
+    ensures { λ r. ⌜ r ≡ choiceOf p ⌝ }
+{
+    Choice {
+        parent: Parent::Held(p.id),
+        rank: own_rank(p),
+    }
+}
+
+// The choice between the held parent q, whose place is h, and the best place b.
+pub fn choose(q: Parent, h: Place, b: Place) -> Choice
+    ensures { λ r. ⌜ r ≡ chosen q h b ⌝ }
+{
+    if path_cost::eligible(b) {
+        if path_cost::eligible(h) {
+            if 640 < increment::minus(path_cost::path_cost(h), path_cost::path_cost(b)) {
+                return take(b);
+            }
+            return Choice {
+                parent: q,
+                rank: own_rank(h),
+            };
+        }
+        return take(b);
+    }
+    Choice {
+        parent: Parent::None,
+        rank: 65535,
+    }
+}

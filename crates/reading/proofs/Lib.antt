@@ -1,0 +1,9 @@
+pub mod Numbers
+pub mod ReadLaws
+pub mod Claimed
+pub mod Each
+pub mod Within
+pub mod Noted
+pub mod Bounds
+pub mod Accepted
+pub mod Witnessed

@@ -1,0 +1,4 @@
+pub mod Read
+pub mod Claims
+pub mod Inside
+pub mod Witnesses

@@ -1,3 +1,0 @@
-pub mod Log
-pub mod Replay
-pub mod Tally

@@ -1,0 +1,14 @@
+-- `run_log::counts` meets its contract. Assumes nothing.
+use Rattle.run_log.proofs.ReplayLaws.{tallyWays, runWays}
+use borrow.Author.Needs.{needs}
+use Rattle.run_log.proofs.counts.Statement.{statement}
+use Rattle.run_log.proofs.counts.Tie as tie
+
+returns : tie.Need-returns
+returns c = search (needs, tallyWays, runWays)
+
+returns-2 : tie.Need-returns-2
+returns-2 c = search (needs, tallyWays, runWays)
+
+pub counts-spec : {M : Type 1} → statement M
+counts-spec = tie.close (tie.spec returns returns-2)

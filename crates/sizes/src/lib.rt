@@ -1,0 +1,46 @@
+// The numbers of bytes of a record's sequence number, source and joining information in its frame (frame/specs/Frame.antt).
+ghost use mathlib.Core.Path.{_≡_};
+ghost use Prim.Native.Nat.{_≤_};
+ghost use lib.ListN.{length};
+ghost use Rattle.frame.specs.Frame.{sequenceBytes, sourceBytes, joiningSize};
+use beacon::Address;
+use beacon::JoiningInformation;
+use beacon::SequenceNumber;
+
+// The bytes of a sequence number.
+pub fn sequence_size(sequence: SequenceNumber) -> usize
+    ensures { λ r. ⌜ (r ≡ length (sequenceBytes sequence)) × (r ≤ 1) ⌝ }
+{
+    match sequence {
+        SequenceNumber::Absent => {
+            return 0;
+        }
+        SequenceNumber::Number(_) => {
+            return 1;
+        }
+    }
+}
+
+// The bytes of a source address.
+pub fn source_size(source: Address) -> usize
+    ensures { λ r. ⌜ (r ≡ length (sourceBytes source)) × (r ≤ 8) ⌝ }
+{
+    match source {
+        Address::Short(_) => {
+            return 2;
+        }
+        Address::Extended(_) => {
+            return 8;
+        }
+    }
+}
+
+// The bytes of joining information behind its descriptor.
+pub fn joining_size(joining: JoiningInformation) -> usize
+    ensures { λ r. ⌜ (r ≡ joiningSize joining) × (r ≤ 268) ⌝ }
+{
+    if joining.proxied {
+        return 13 + joining.length as usize;
+    }
+    5 + joining.length as usize
+}

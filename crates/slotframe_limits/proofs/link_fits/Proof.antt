@@ -1,0 +1,13 @@
+use Rattle.slotframe_limits.proofs.SlotframeLaws.{slotframes}
+use borrow.Author.Needs.{needs}
+use Rattle.slotframe_limits.proofs.link_fits.Statement.{statement}
+use Rattle.slotframe_limits.proofs.link_fits.Tie as tie
+use Rattle.slotframe_limits.proofs.link_fits.Reads as reads
+use Rattle.slotframe_limits.proofs.link_fits.Lts as lts
+
+-- src/lib.rt:10:1
+returns : tie.Need-returns
+returns c = search (needs, slotframes)
+
+pub link-fits-spec : {M : Type 1} → statement M
+link-fits-spec = tie.close (tie.spec returns)

@@ -1,0 +1,39 @@
+// Whether a table breaks a rule, which every call asks first. The rules are those of docs/RULES.md, Neighbours.
+use metric::Place;
+use neighbours::Parent;
+use neighbours::Table;
+use place_limits::any_twice;
+use place_limits::any_unfit;
+use places::search::find;
+ghost use mathlib.Core.Path.{_≡_};
+ghost use Rattle.neighbours.specs.Calls.{broken, parentMissing};
+
+// Whether a held parent is not among the places in use.
+fn is_parent_missing(q: Parent, ps: [Place; 32]) -> bool
+    ensures { λ r. ⌜ r ≡ parentMissing q ps ⌝ }
+{
+    match q {
+        Parent::Held(n) => {
+            if find(ps, 0, n) < 32 {
+                return false;
+            }
+            true
+        }
+        Parent::None => false,
+    }
+}
+
+// Whether a table breaks a rule.
+pub fn is_broken(t: Table) -> bool
+    ensures { λ r. ⌜ r ≡ broken t ⌝ }
+{
+    let ps = t.places;
+    if any_unfit(ps) {
+        return true;
+    }
+    if any_twice(ps) {
+        return true;
+    }
+    let q = t.parent;
+    is_parent_missing(q, ps)
+}
