@@ -24,7 +24,8 @@ struct beacon {
 
 static uint8_t read_beacon(const uint8_t *frame, size_t length, struct beacon *beacon)
 {
-    return tesolvagna_read(frame, length, &beacon->numbers, &beacon->timings, &beacon->links, &beacon->network);
+    return tesolvagna_read(frame, length, beacon->numbers, TESOLVAGNA_NUMBERS, beacon->timings, TESOLVAGNA_TIMINGS,
+                           beacon->links, TESOLVAGNA_LINK_NUMBERS, beacon->network, TESOLVAGNA_NETWORK_ID_BYTES);
 }
 
 /* For calls that only a mistake in this program makes fail. */
@@ -133,7 +134,7 @@ static void show_neighbours(const uint64_t table[TESOLVAGNA_TABLE_NUMBERS])
 /* Chooses the parent anew. To be without one is an answer, not a refusal. */
 static void evaluate(uint64_t table[TESOLVAGNA_TABLE_NUMBERS])
 {
-    struct tesolvagna_evaluated own = tesolvagna_evaluate(table);
+    struct tesolvagna_evaluated own = tesolvagna_evaluate(table, TESOLVAGNA_TABLE_NUMBERS);
 
     must("evaluate", own.number);
     if (!table[TESOLVAGNA_PARENT_PRESENT]) {
@@ -151,19 +152,19 @@ static void run_table(uint64_t sender)
     uint64_t table[TESOLVAGNA_TABLE_NUMBERS];
     const uint64_t second = sender + 1, deaf = sender + 2;
 
-    tesolvagna_empty(table);
+    must("empty", tesolvagna_empty(table, TESOLVAGNA_TABLE_NUMBERS));
     evaluate(table);
     /* Ranks are advertised in RPL's messages, not in beacons. */
-    must("advertise", tesolvagna_advertise(table, sender, 512));
-    must("advertise", tesolvagna_advertise(table, second, 640));
-    must("advertise", tesolvagna_advertise(table, deaf, 256));
+    must("advertise", tesolvagna_advertise(table, TESOLVAGNA_TABLE_NUMBERS, sender, 512));
+    must("advertise", tesolvagna_advertise(table, TESOLVAGNA_TABLE_NUMBERS, second, 640));
+    must("advertise", tesolvagna_advertise(table, TESOLVAGNA_TABLE_NUMBERS, deaf, 256));
     /* A report for each frame sent: how often it was, and whether it was acknowledged in the end. */
-    must("report", tesolvagna_report(table, sender, 1, true));
-    must("report", tesolvagna_report(table, second, 3, true));
-    must("report", tesolvagna_report(table, deaf, 4, false));
+    must("report", tesolvagna_report(table, TESOLVAGNA_TABLE_NUMBERS, sender, 1, true));
+    must("report", tesolvagna_report(table, TESOLVAGNA_TABLE_NUMBERS, second, 3, true));
+    must("report", tesolvagna_report(table, TESOLVAGNA_TABLE_NUMBERS, deaf, 4, false));
     show_neighbours(table);
     evaluate(table);
-    must("forget", tesolvagna_forget(table, sender));
+    must("forget", tesolvagna_forget(table, TESOLVAGNA_TABLE_NUMBERS, sender));
     printf("forgotten: %016" PRIX64 "\n", sender);
     evaluate(table);
 }

@@ -1,7 +1,13 @@
 /*
  * C interface of Tesolvagna, a proved library for 6TiSCH Enhanced Beacons. Link with libtesolvagna.a (64-bit targets).
  *
- * Every function answers on every input; what a caller owes is only that a pointer is what its comment says.
+ * Every function answers on every input. What a caller owes is only that memory is what it is said to be: a pointer is not
+ * null, it is aligned, and what it points to is valid for the length that follows it, also when that length is 0; memory
+ * that a function writes does not overlap anything else that is lent to the same call.
+ *
+ * Memory is lent as a pointer and a length, in entries. Where a layout has a length of its own (a table, the arrays of a
+ * record), lending another length is refused with TESOLVAGNA_OUTSIDE_LIMITS before anything else is looked at, and nothing is
+ * written.
  */
 #ifndef TESOLVAGNA_H
 #define TESOLVAGNA_H
@@ -73,16 +79,22 @@ struct tesolvagna_slot {
 };
 
 /*
- * What to do in slot `asn` of a slotframe of `size` slots; `id` is the hopping sequence ID, `waits` says that a frame
- * waits to be sent.
+ * Decides what to do in slot `asn`.
  *
- * Refused with 8 if `size` is 0, `count` is not 1 to 16, a link's timeslot is not below `size`, `id` is not 0 or
- * `asn` is over 2^40 - 1. A link is active when its timeslot is `asn` mod `size`. If a frame waits and an active link
- * has the transmit option: transmit on the first such link. Else, if an active link has the receive option: listen on
- * the first such link. Else sleep. The channel is that of `tesolvagna_channel` for the link; action, channel and
- * place are 0 when asleep or refused.
+ * links, count   the links of the schedule, in their order; not written
+ * size           how many slots the slotframe has
+ * id             the hopping sequence ID
+ * asn            the absolute slot number
+ * waits          whether a frame waits to be sent
  *
- * `links` is not null, aligned and valid for `count` links, also when `count` is 0. Nothing is written.
+ * A link is active when its timeslot is `asn` mod `size`. If a frame waits and an active link has the transmit option:
+ * transmit on the first such link. Else, if an active link has the receive option: listen on the first such link. Else
+ * sleep. The channel is that of `tesolvagna_channel` for the link.
+ *
+ * number 0   done
+ * number 8   `size` is 0, `count` is not 1 to 16, a link's timeslot is not below `size`, `id` is not 0 or `asn` is over 2^40 - 1
+ *
+ * Action, channel and place are 0 when asleep and when refused. Nothing is written.
  */
 struct tesolvagna_slot tesolvagna_decide(const struct tesolvagna_link *links, size_t count, uint16_t size, uint8_t id,
                                          uint64_t asn, bool waits);
@@ -97,21 +109,19 @@ uint8_t tesolvagna_channel(uint64_t asn, uint16_t offset);
 /*
  * The neighbour table. A table is 162 numbers that the caller lends:
  *
- *   numbers[5*i + 0]   place i, 0 to 31: 1 in use, 0 free
- *   numbers[5*i + 1]   its neighbour's identifier (0 is one too)
- *   numbers[5*i + 2]   advertised rank, at most 65535
- *   numbers[5*i + 3]   attempts, at most 255
- *   numbers[5*i + 4]   acknowledged, at most the attempts
- *   numbers[160]       1 a parent is held, 0 none
- *   numbers[161]       the held parent's identifier, 0 where none is held
+ *   table[5*i + 0]   place i, 0 to 31: 1 in use, 0 free
+ *   table[5*i + 1]   its neighbour's identifier (0 is one too)
+ *   table[5*i + 2]   advertised rank, at most 65535
+ *   table[5*i + 3]   attempts, at most 255
+ *   table[5*i + 4]   acknowledged, at most the attempts
+ *   table[160]       1 a parent is held, 0 none
+ *   table[161]       the held parent's identifier, 0 where none is held
  *
- * A free place is all zero; 162 zeros are the empty table. Numbers that are no table (a mark over 1, a rank or a counter over
- * 65535, an identifier where no parent is held) and tables that break a rule (attempts over 255, more acknowledged than
- * attempts, a free place that is not all zero, an identifier twice among places in use, a held parent not among them) are
- * refused with 8 by every call. A refusal changes none of the numbers. Each pointer is not null, aligned, and valid for what
- * is declared.
+ * A free place is all zero; 162 zeros are the empty table. Refused with 8 by every call, as no table: another length than
+ * 162; a mark over 1, a rank or a counter over 65535, an identifier where no parent is held; attempts over 255, more
+ * acknowledged than attempts, a free place that is not all zero, an identifier twice among places in use, a held parent not
+ * among them. A refusal, for whatever reason, changes none of the numbers.
  */
-#define TESOLVAGNA_TABLE_NUMBERS 162
 
 /* Places of a table's numbers: a neighbour's count from TESOLVAGNA_NEIGHBOUR_STRIDE * i, the parent's from the start. */
 enum tesolvagna_table {
@@ -124,14 +134,17 @@ enum tesolvagna_table {
     TESOLVAGNA_PARENT_ID = 161
 };
 
-/* How many neighbours a table has places for, and how many numbers each place has. */
+/* How many numbers a table has, how many neighbours it has places for, and how many numbers each place has. */
 enum tesolvagna_table_length {
+    TESOLVAGNA_TABLE_NUMBERS = 162,
     TESOLVAGNA_NEIGHBOURS = 32,
     TESOLVAGNA_NEIGHBOUR_STRIDE = 5
 };
 
-/* The own rank without a parent. */
-#define TESOLVAGNA_NO_RANK 65535
+/* Limits of ranks: the own rank without a parent. */
+enum tesolvagna_rank {
+    TESOLVAGNA_NO_RANK = 65535
+};
 
 /* Own rank after an evaluation: 65535 where there is no parent, and where it is refused. */
 struct tesolvagna_evaluated {
@@ -158,46 +171,101 @@ struct tesolvagna_counts {
     uint64_t applies;
 };
 
-/* Makes the lent numbers the empty table, which is 162 zeros; what they were does not matter. */
-void tesolvagna_empty(uint64_t table[TESOLVAGNA_TABLE_NUMBERS]);
+/* Kinds of calls in a log. */
+enum tesolvagna_call {
+    TESOLVAGNA_CALL_ADVERTISE = 0,
+    TESOLVAGNA_CALL_REPORT = 1,
+    TESOLVAGNA_CALL_FORGET = 2,
+    TESOLVAGNA_CALL_EVALUATE = 3,
+    /* The most calls that a log may have. */
+    TESOLVAGNA_MOST_CALLS = 65535
+};
 
-/* The smallest whole number not below 256 * (3t - 2a) / a, and 0 where a is 0 or 2a is over 3t. */
+/*
+ * Makes the lent numbers the empty table; what they were does not matter.
+ *
+ * returns 0   done: the table is 162 zeros
+ * returns 8   `table_length` is not 162; nothing is written
+ */
+uint8_t tesolvagna_empty(uint64_t *table, size_t table_length);
+
+/*
+ * The increment of a neighbour with so many attempts, of which so many were acknowledged: the smallest whole number not
+ * below 256 * (3 * attempts - 2 * acked) / acked, and 0 where `acked` is 0 or 2 * acked is over 3 * attempts. Nothing is
+ * refused, nothing is written.
+ */
 uint32_t tesolvagna_increment(uint16_t attempts, uint16_t acked);
 
-/* The join metric that a node of this rank sends: rank / 256 - 1, rounded down, for ranks 256 to 65534. Any other
- * rank is refused with 8, and such a node sends no beacon. */
+/*
+ * The join metric that a node of this rank sends: rank / 256 - 1, rounded down.
+ *
+ * number 0   done, for ranks 256 to 65534
+ * number 8   any other rank, with the metric 0: such a node sends no beacon
+ *
+ * Nothing is written.
+ */
 struct tesolvagna_metric tesolvagna_join_metric(uint16_t rank);
 
-/* Sets the rank of a neighbour, or adds it with no attempts in the lowest-numbered free place. 8: no table. 11: the
- * neighbour is new and all 32 places are in use. */
-uint8_t tesolvagna_advertise(uint64_t table[TESOLVAGNA_TABLE_NUMBERS], uint64_t id, uint16_t rank);
+/*
+ * Sets the rank of neighbour `id`, or adds it with no attempts in the lowest-numbered free place.
+ *
+ * returns 0    done: the table holds the rank
+ * returns 8    no table
+ * returns 11   the neighbour is new and all 32 places are in use
+ *
+ * On a refusal the table is as it was.
+ */
+uint8_t tesolvagna_advertise(uint64_t *table, size_t table_length, uint64_t id, uint16_t rank);
 
-/* Counts 1 to 4 attempts to send to a neighbour, and whether they ended with an acknowledgement. Where the attempts
- * would pass 255, attempts and acknowledged are halved first, rounding down. 8: no table, or another number of
- * attempts. 10: the neighbour is not in the table. */
-uint8_t tesolvagna_report(uint64_t table[TESOLVAGNA_TABLE_NUMBERS], uint64_t id, uint16_t attempts, bool acked);
+/*
+ * Counts 1 to 4 attempts to send to neighbour `id`, and whether they ended with an acknowledgement. Where the attempts would
+ * pass 255, attempts and acknowledged are halved first, rounding down.
+ *
+ * returns 0    done: the table holds the counters
+ * returns 8    no table, or `attempts` is not 1 to 4
+ * returns 10   the neighbour is not in the table
+ *
+ * On a refusal the table is as it was.
+ */
+uint8_t tesolvagna_report(uint64_t *table, size_t table_length, uint64_t id, uint16_t attempts, bool acked);
 
-/* Frees the place of a neighbour; held as a parent, it is so no longer. 8: no table. 10: the neighbour is not in
- * the table. */
-uint8_t tesolvagna_forget(uint64_t table[TESOLVAGNA_TABLE_NUMBERS], uint64_t id);
+/*
+ * Frees the place of neighbour `id`; held as a parent, it is so no longer.
+ *
+ * returns 0    done: the place is free and all zero
+ * returns 8    no table
+ * returns 10   the neighbour is not in the table
+ *
+ * On a refusal the table is as it was.
+ */
+uint8_t tesolvagna_forget(uint64_t *table, size_t table_length, uint64_t id);
 
-/* Chooses the parent and gives the own rank, which is the parent's cost: its rank and `tesolvagna_increment` of its
+/*
+ * Chooses the parent and gives the own rank, which is the parent's cost: its rank and `tesolvagna_increment` of its
  * counters. A neighbour is eligible with a rank of at least 256, at least 1 acknowledged, 3 * attempts at most 11 *
- * acknowledged and a cost of at most 65534; the best has the least cost, then the lower identifier. The held parent
- * is changed for the best if none is held, if it is not eligible, or if its cost is more than 640 over the best
- * one's. Nothing but the parent changes in the table. 8: no table. */
-struct tesolvagna_evaluated tesolvagna_evaluate(uint64_t table[TESOLVAGNA_TABLE_NUMBERS]);
+ * acknowledged and a cost of at most 65534; the best has the least cost, then the lower identifier. The held parent is
+ * changed for the best if none is held, if it is not eligible, or if its cost is more than 640 over the best one's. With no
+ * eligible neighbour no parent is held and the own rank is 65535, which is no refusal.
+ *
+ * number 0   done: the table holds the parent, and nothing else of it is changed
+ * number 8   no table, with the own rank 65535; the table is as it was
+ */
+struct tesolvagna_evaluated tesolvagna_evaluate(uint64_t *table, size_t table_length);
 
-/* Runs a log, one row for each call: kind 0 advertises the identifier with the value as rank, 1 reports the value as
- * attempts, acknowledged where the flag is 1, 2 forgets the identifier, 3 evaluates. What a kind does not name is not looked
- * at. The four lists are equally long, at most 65535; no kind is over 3 and no flag over 1: else 8. The table holds
- * afterwards what the last call gave back. */
-struct tesolvagna_counts tesolvagna_replay(
-    uint64_t table[TESOLVAGNA_TABLE_NUMBERS],
-    const uint8_t *kinds, size_t kinds_len,
-    const uint64_t *ids, size_t ids_len,
-    const uint16_t *values, size_t values_len,
-    const uint8_t *flags, size_t flags_len);
+/*
+ * Runs a log of calls, one row for each: `kinds` says which call it is (enum tesolvagna_call), `ids` the neighbour, `values`
+ * the rank of an advertisement or the attempts of a report, `flags` 1 if a report ended with an acknowledgement. What a kind
+ * does not take is not looked at. Calls that are refused stay in the log and change nothing.
+ *
+ * number 0   done: the table is what the last call gave back
+ * number 8   no table; lists that are not equally long; over 65535 rows; a kind over 3 or a flag over 1. All counts are 0 and
+ *            the table is as it was
+ *
+ * The four lists are not written.
+ */
+struct tesolvagna_counts tesolvagna_replay(uint64_t *table, size_t table_length, const uint8_t *kinds, size_t kinds_length,
+                                           const uint64_t *ids, size_t ids_length, const uint16_t *values,
+                                           size_t values_length, const uint8_t *flags, size_t flags_length);
 
 /* Places of a record's numbers. A number that the beacon does not say is 0. */
 enum tesolvagna_record {
@@ -254,8 +322,17 @@ enum tesolvagna_most {
 };
 
 /*
- * Reads an Enhanced Beacon as the radio hands it over, without MIC and FCS. Answers 0 and lays its record out, or
- * answers the number of the first check that it fails and lays the blank record out, in which everything is 0.
+ * Reads an Enhanced Beacon as the radio hands it over, without MIC and FCS, and lays its record out in lent arrays.
+ *
+ * frame, frame_length       the received bytes; not written
+ * numbers, numbers_length   21 numbers, as named above
+ * timings, timings_length   12 timings, 0 without
+ * links, links_length       48 numbers: timeslot, channel offset and options of each of 16 links, 0 from the link count on
+ * network, network_length   the 16 bytes of the network ID, 0 from its length on
+ *
+ * returns 0        done: the arrays hold the record
+ * returns 1 to 8   the first check that the frame fails: the arrays hold the blank record, in which everything is 0
+ * returns 8        also if an array has another length than the four above, whatever the frame is: the arrays are as they were
  *
  * The checks are made in this order. Numbers are least significant byte first, except inside joining information.
  *   1  The frame has more than 125 bytes.
@@ -286,34 +363,34 @@ enum tesolvagna_most {
  *     priority, most significant first, then 8 bytes of address if P is set, then 0 to 16 bytes of network ID; another
  *     length is 6, a second one 7.
  *   7  One of the four sub-elements is missing.
- *
- * The record: `numbers` as named above; the twelve timings, 0 without; of each link timeslot, channel offset and
- * options, 0 from the link count on; the network ID, 0 from its length on.
- *
- * `frame` is not null and valid for `length` bytes, also when `length` is 0; it is not written. The arrays are not null
- * and aligned, and they are written whole. No two of the five overlap.
  */
-uint8_t tesolvagna_read(const uint8_t *frame, size_t length, uint64_t (*numbers)[TESOLVAGNA_NUMBERS],
-                        uint32_t (*timings)[TESOLVAGNA_TIMINGS], uint16_t (*links)[TESOLVAGNA_LINK_NUMBERS],
-                        uint8_t (*network)[TESOLVAGNA_NETWORK_ID_BYTES]);
+uint8_t tesolvagna_read(const uint8_t *frame, size_t frame_length, uint64_t *numbers, size_t numbers_length,
+                        uint32_t *timings, size_t timings_length, uint16_t *links, size_t links_length,
+                        uint8_t *network, size_t network_length);
 
 /*
- * The network ID as part of a frame: its length, and in `start` where it starts, counted from the frame's first byte.
- * Both are 0 if `tesolvagna_read` refuses the frame, for whatever reason, if the frame has no joining information, and
- * if its network ID has 0 bytes.
- *
- * `frame` is as for `tesolvagna_read`. `start` is not null, aligned and not part of the frame; it is always written.
+ * The network ID as part of a frame: gives its length, and in `start` where it starts, counted from the frame's first byte.
+ * Both are 0 if `tesolvagna_read` refuses the frame, for whatever reason, if the frame has no joining information, and if its
+ * network ID has 0 bytes. The frame is not written; `start` always is.
  */
-size_t tesolvagna_network_id(const uint8_t *frame, size_t length, size_t *start);
+size_t tesolvagna_network_id(const uint8_t *frame, size_t frame_length, size_t *start);
 
 /*
- * Writes a record's Enhanced Beacon at the start of a lent room. Answers 0, and the frame is the first `*length` bytes
- * of the room, or answers the first of these that applies:
- *   8  A number is outside its limits.
- *   1  The frame would have more than 125 bytes.
- *   9  The room is shorter than the frame; one of just its length is enough.
+ * Writes a record's Enhanced Beacon at the start of a lent room.
  *
- * The record is laid out as `tesolvagna_read` does it. Outside the limits are:
+ * room, room_length             where the frame goes
+ * numbers, timings, links, network, each with its length
+ *                               the record, laid out as `tesolvagna_read` does it; not written
+ * length                        how many bytes the frame has, 0 on a refusal; always written
+ *
+ * returns 0   done: the frame is the first `*length` bytes of the room, whose later bytes are as they were
+ * returns 8   a number is outside its limits, or an array has another length than `tesolvagna_read` takes
+ * returns 1   the frame would have more than 125 bytes
+ * returns 9   the room is shorter than the frame; one of just its length is enough
+ *
+ * The first of these that applies is given. On a refusal the room is as it was.
+ *
+ * Outside the limits are:
  *   A number that does not fit its field: one over 1 that says what is present, the source's kind or the R flag; over
  *     65535 the PAN ID, a short source, the slotframe size or the rank priority; over 255 a link's options, and any
  *     other of `numbers` but an extended source, the ASN and the address.
@@ -333,15 +410,10 @@ size_t tesolvagna_network_id(const uint8_t *frame, size_t length, size_t *start)
  * group 1 of synchronization, timeslot, channel hopping, and slotframe and link; joining information, if present, as
  * group 5 with subtype 2; no group 15. Timings take the form of 25 bytes if both of the last two fit in 2 bytes, else
  * that of 27. `tesolvagna_read` answers 0 on it and lays the same record out.
- *
- * `room` is not null and valid for `room_length` bytes, also when that is 0; its bytes from `*length` on stay as they
- * were, and so do all of them on a refusal. `length` is not null and aligned; it is always written, and 0 on a refusal.
- * The arrays are not null and aligned; they are not written. Neither the room nor `length` overlaps another of the six.
  */
-uint8_t tesolvagna_write(uint8_t *room, size_t room_length, const uint64_t (*numbers)[TESOLVAGNA_NUMBERS],
-                         const uint32_t (*timings)[TESOLVAGNA_TIMINGS],
-                         const uint16_t (*links)[TESOLVAGNA_LINK_NUMBERS],
-                         const uint8_t (*network)[TESOLVAGNA_NETWORK_ID_BYTES], size_t *length);
+uint8_t tesolvagna_write(uint8_t *room, size_t room_length, const uint64_t *numbers, size_t numbers_length,
+                         const uint32_t *timings, size_t timings_length, const uint16_t *links, size_t links_length,
+                         const uint8_t *network, size_t network_length, size_t *length);
 
 #ifdef __cplusplus
 }

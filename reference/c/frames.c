@@ -44,23 +44,24 @@ static uint64_t add(uint64_t sum, uint64_t number)
 /* The checksum of the library's whole answer on the frame. */
 static uint64_t answer(const uint8_t *frame, size_t length)
 {
-    uint64_t(*numbers)[TESOLVAGNA_NUMBERS] = block(sizeof *numbers);
-    uint32_t(*timings)[TESOLVAGNA_TIMINGS] = block(sizeof *timings);
-    uint16_t(*links)[TESOLVAGNA_LINK_NUMBERS] = block(sizeof *links);
-    uint8_t(*network)[TESOLVAGNA_NETWORK_ID_BYTES] = block(sizeof *network);
+    uint64_t *numbers = block(TESOLVAGNA_NUMBERS * sizeof *numbers);
+    uint32_t *timings = block(TESOLVAGNA_TIMINGS * sizeof *timings);
+    uint16_t *links = block(TESOLVAGNA_LINK_NUMBERS * sizeof *links);
+    uint8_t *network = block(TESOLVAGNA_NETWORK_ID_BYTES);
     size_t *start = block(sizeof *start);
     uint64_t sum = 0xCBF29CE484222325;
     int place;
 
-    sum = add(sum, tesolvagna_read(frame, length, numbers, timings, links, network));
+    sum = add(sum, tesolvagna_read(frame, length, numbers, TESOLVAGNA_NUMBERS, timings, TESOLVAGNA_TIMINGS, links,
+                                   TESOLVAGNA_LINK_NUMBERS, network, TESOLVAGNA_NETWORK_ID_BYTES));
     for (place = 0; place < TESOLVAGNA_NUMBERS; place++)
-        sum = add(sum, (*numbers)[place]);
+        sum = add(sum, numbers[place]);
     for (place = 0; place < TESOLVAGNA_TIMINGS; place++)
-        sum = add(sum, (*timings)[place]);
+        sum = add(sum, timings[place]);
     for (place = 0; place < TESOLVAGNA_LINK_NUMBERS; place++)
-        sum = add(sum, (*links)[place]);
+        sum = add(sum, links[place]);
     for (place = 0; place < TESOLVAGNA_NETWORK_ID_BYTES; place++)
-        sum = add(sum, (*network)[place]);
+        sum = add(sum, network[place]);
     sum = add(sum, tesolvagna_network_id(frame, length, start));
     sum = add(sum, *start);
 

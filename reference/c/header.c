@@ -5,6 +5,9 @@
 #include <stdio.h>
 #include <string.h>
 
+/* A table's length. */
+enum { whole = TESOLVAGNA_TABLE_NUMBERS };
+
 static int wrong(const char *name, struct tesolvagna_slot slot, uint8_t number, uint8_t action, uint8_t channel,
                  size_t place)
 {
@@ -63,17 +66,46 @@ static int places(void)
     uint64_t id;
     int failures = 0;
 
-    failures += differs("own rank of the empty table", tesolvagna_evaluate(found).rank, TESOLVAGNA_NO_RANK);
-    failures += differs("first place", tesolvagna_advertise(found, 7, 300), TESOLVAGNA_DONE);
-    failures += differs("second place", tesolvagna_advertise(found, 9, 600), TESOLVAGNA_DONE);
-    failures += differs("3 attempts", tesolvagna_report(found, 9, 3, true), TESOLVAGNA_DONE);
-    failures += differs("1 attempt", tesolvagna_report(found, 9, 1, true), TESOLVAGNA_DONE);
-    failures += differs("evaluation", tesolvagna_evaluate(found).number, TESOLVAGNA_DONE);
+    failures += differs("own rank of the empty table", tesolvagna_evaluate(found, whole).rank, TESOLVAGNA_NO_RANK);
+    failures += differs("first place", tesolvagna_advertise(found, whole, 7, 300), TESOLVAGNA_DONE);
+    failures += differs("second place", tesolvagna_advertise(found, whole, 9, 600), TESOLVAGNA_DONE);
+    failures += differs("3 attempts", tesolvagna_report(found, whole, 9, 3, true), TESOLVAGNA_DONE);
+    failures += differs("1 attempt", tesolvagna_report(found, whole, 9, 1, true), TESOLVAGNA_DONE);
+    failures += differs("evaluation", tesolvagna_evaluate(found, whole).number, TESOLVAGNA_DONE);
     failures += differs("named places", (uint64_t)(memcmp(found, expected, sizeof(found)) != 0), 0);
 
     for (id = 0; id < TESOLVAGNA_NEIGHBOURS; id++)
-        failures += differs("a place is free", tesolvagna_advertise(full, id, 300), TESOLVAGNA_DONE);
-    failures += differs("no place is free", tesolvagna_advertise(full, id, 300), TESOLVAGNA_TABLE_FULL);
+        failures += differs("a place is free", tesolvagna_advertise(full, whole, id, 300), TESOLVAGNA_DONE);
+    failures += differs("no place is free", tesolvagna_advertise(full, whole, id, 300), TESOLVAGNA_TABLE_FULL);
+    return failures;
+}
+
+/* Tables of another length than theirs are refused by every call, and not a number of them is written. */
+static int lengths(void)
+{
+    static const size_t wrong_lengths[] = {0, TESOLVAGNA_TABLE_NUMBERS - 1, TESOLVAGNA_TABLE_NUMBERS + 1};
+    static const uint8_t kind = TESOLVAGNA_CALL_ADVERTISE, flag = 0;
+    static const uint64_t id = 7;
+    static const uint16_t rank = 300;
+    uint64_t found[TESOLVAGNA_TABLE_NUMBERS + 1] = {1, 9, 512, 1, 1}, before[TESOLVAGNA_TABLE_NUMBERS + 1];
+    struct tesolvagna_counts counts;
+    int failures = 0;
+    size_t i;
+
+    memcpy(before, found, sizeof(found));
+    for (i = 0; i < sizeof(wrong_lengths) / sizeof(*wrong_lengths); i++) {
+        const size_t length = wrong_lengths[i];
+
+        failures += differs("length of an empty table", tesolvagna_empty(found, length), TESOLVAGNA_OUTSIDE_LIMITS);
+        failures += differs("length, advertise", tesolvagna_advertise(found, length, 7, 300), TESOLVAGNA_OUTSIDE_LIMITS);
+        failures += differs("length, report", tesolvagna_report(found, length, 9, 1, true), TESOLVAGNA_OUTSIDE_LIMITS);
+        failures += differs("length, forget", tesolvagna_forget(found, length, 9), TESOLVAGNA_OUTSIDE_LIMITS);
+        failures += differs("length, evaluate", tesolvagna_evaluate(found, length).number, TESOLVAGNA_OUTSIDE_LIMITS);
+        failures += differs("length, own rank", tesolvagna_evaluate(found, length).rank, TESOLVAGNA_NO_RANK);
+        counts = tesolvagna_replay(found, length, &kind, 1, &id, 1, &rank, 1, &flag, 1);
+        failures += differs("length, replay", counts.number, TESOLVAGNA_OUTSIDE_LIMITS);
+        failures += differs("length, numbers", (uint64_t)(memcmp(found, before, sizeof(found)) != 0), 0);
+    }
     return failures;
 }
 
@@ -98,28 +130,28 @@ static int table(void)
     failures += differs("metric", metric.metric, 10);
     failures += differs("metric of 255", tesolvagna_join_metric(255).number, TESOLVAGNA_OUTSIDE_LIMITS);
 
-    tesolvagna_empty(stepped);
-    failures += differs("advertise", tesolvagna_advertise(stepped, UINT64_MAX, 1000), TESOLVAGNA_DONE);
-    failures += differs("report", tesolvagna_report(stepped, UINT64_MAX, 1, true), TESOLVAGNA_DONE);
-    evaluated = tesolvagna_evaluate(stepped);
+    failures += differs("empty", tesolvagna_empty(stepped, whole), TESOLVAGNA_DONE);
+    failures += differs("advertise", tesolvagna_advertise(stepped, whole, UINT64_MAX, 1000), TESOLVAGNA_DONE);
+    failures += differs("report", tesolvagna_report(stepped, whole, UINT64_MAX, 1, true), TESOLVAGNA_DONE);
+    evaluated = tesolvagna_evaluate(stepped, whole);
     failures += differs("first evaluation", evaluated.number, TESOLVAGNA_DONE);
     failures += differs("first own rank", evaluated.rank, 1256);
-    failures += differs("other advertises", tesolvagna_advertise(stepped, 0, 512), TESOLVAGNA_DONE);
-    failures += differs("report of it", tesolvagna_report(stepped, 0, 1, true), TESOLVAGNA_DONE);
-    failures += differs("rise to a gain of 640", tesolvagna_advertise(stepped, UINT64_MAX, 1152), TESOLVAGNA_DONE);
-    failures += differs("kept", tesolvagna_evaluate(stepped).rank, 1408);
-    failures += differs("rise to a gain of 641", tesolvagna_advertise(stepped, UINT64_MAX, 1153), TESOLVAGNA_DONE);
-    failures += differs("changed", tesolvagna_evaluate(stepped).rank, 768);
-    failures += differs("forget", tesolvagna_forget(stepped, UINT64_MAX), TESOLVAGNA_DONE);
-    failures += differs("forget again", tesolvagna_forget(stepped, UINT64_MAX), TESOLVAGNA_UNKNOWN_NEIGHBOUR);
-    failures += differs("5 attempts", tesolvagna_report(stepped, 0, 5, true), TESOLVAGNA_OUTSIDE_LIMITS);
-    failures += differs("place 0", stepped[0], 0);
-    failures += differs("place 1", stepped[5], 1);
-    failures += differs("its rank", stepped[7], 512);
-    failures += differs("parent's mark", stepped[160], 1);
-    failures += differs("parent", stepped[161], 0);
+    failures += differs("other advertises", tesolvagna_advertise(stepped, whole, 0, 512), TESOLVAGNA_DONE);
+    failures += differs("report of it", tesolvagna_report(stepped, whole, 0, 1, true), TESOLVAGNA_DONE);
+    failures += differs("rise to a gain of 640", tesolvagna_advertise(stepped, whole, UINT64_MAX, 1152), TESOLVAGNA_DONE);
+    failures += differs("kept", tesolvagna_evaluate(stepped, whole).rank, 1408);
+    failures += differs("rise to a gain of 641", tesolvagna_advertise(stepped, whole, UINT64_MAX, 1153), TESOLVAGNA_DONE);
+    failures += differs("changed", tesolvagna_evaluate(stepped, whole).rank, 768);
+    failures += differs("forget", tesolvagna_forget(stepped, whole, UINT64_MAX), TESOLVAGNA_DONE);
+    failures += differs("forget again", tesolvagna_forget(stepped, whole, UINT64_MAX), TESOLVAGNA_UNKNOWN_NEIGHBOUR);
+    failures += differs("5 attempts", tesolvagna_report(stepped, whole, 0, 5, true), TESOLVAGNA_OUTSIDE_LIMITS);
+    failures += differs("place 0", stepped[TESOLVAGNA_NEIGHBOUR_IN_USE], 0);
+    failures += differs("place 1", stepped[TESOLVAGNA_NEIGHBOUR_STRIDE + TESOLVAGNA_NEIGHBOUR_IN_USE], 1);
+    failures += differs("its rank", stepped[TESOLVAGNA_NEIGHBOUR_STRIDE + TESOLVAGNA_NEIGHBOUR_RANK], 512);
+    failures += differs("parent's mark", stepped[TESOLVAGNA_PARENT_PRESENT], 1);
+    failures += differs("parent", stepped[TESOLVAGNA_PARENT_ID], 0);
 
-    counts = tesolvagna_replay(replayed, kinds, count, ids, count, values, count, flags, count);
+    counts = tesolvagna_replay(replayed, whole, kinds, count, ids, count, values, count, flags, count);
     failures += differs("replay", counts.number, TESOLVAGNA_DONE);
     failures += differs("evaluations", counts.evaluations, 3);
     failures += differs("changes", counts.changes, 2);
@@ -128,14 +160,14 @@ static int table(void)
     /* The first evaluation finds no parent. */
     failures += differs("applies", counts.applies, 0);
     failures += differs("same table", (uint64_t)memcmp(stepped, replayed, sizeof(stepped)), 0);
-    counts = tesolvagna_replay(replayed, kinds, count, ids, count, values, count - 1, flags, count);
+    counts = tesolvagna_replay(replayed, whole, kinds, count, ids, count, values, count - 1, flags, count);
     failures += differs("a value less", counts.number, TESOLVAGNA_OUTSIDE_LIMITS);
 
-    stepped[160] = 2;
-    evaluated = tesolvagna_evaluate(stepped);
+    stepped[TESOLVAGNA_PARENT_PRESENT] = 2;
+    evaluated = tesolvagna_evaluate(stepped, whole);
     failures += differs("no table", evaluated.number, TESOLVAGNA_OUTSIDE_LIMITS);
-    failures += differs("own rank of no table", evaluated.rank, 65535);
-    failures += differs("mark kept", stepped[160], 2);
+    failures += differs("own rank of no table", evaluated.rank, TESOLVAGNA_NO_RANK);
+    failures += differs("mark kept", stepped[TESOLVAGNA_PARENT_PRESENT], 2);
     return failures;
 }
 
@@ -189,6 +221,7 @@ int main(void)
     }
     failures += layout();
     failures += places();
+    failures += lengths();
     failures += table();
     return failures;
 }

@@ -1,15 +1,7 @@
 /* Reads frames through the C header; the exit status is the number of wrong answers. */
-#include "tesolvagna.h"
+#include "record.h"
 
 #include <stdio.h>
-#include <string.h>
-
-struct record {
-    uint64_t numbers[TESOLVAGNA_NUMBERS];
-    uint32_t timings[TESOLVAGNA_TIMINGS];
-    uint16_t links[TESOLVAGNA_LINK_NUMBERS];
-    uint8_t network[TESOLVAGNA_NETWORK_ID_BYTES];
-};
 
 /* A beacon with timings in their longer form, two links and joining information. */
 static const uint8_t frame[] = {
@@ -78,15 +70,12 @@ static int wrong(const char *name, const uint8_t *bytes, size_t length, uint8_t 
     struct record record;
     size_t found_start, found_length;
     uint8_t found;
-    int same;
+    bool same;
 
     memset(&record, 0x55, sizeof record);
-    found = tesolvagna_read(bytes, length, &record.numbers, &record.timings, &record.links, &record.network);
+    found = read_record(bytes, length, &record, whole);
     found_length = tesolvagna_network_id(bytes, length, &found_start);
-    same = memcmp(record.numbers, expected->numbers, sizeof record.numbers) == 0
-           && memcmp(record.timings, expected->timings, sizeof record.timings) == 0
-           && memcmp(record.links, expected->links, sizeof record.links) == 0
-           && memcmp(record.network, expected->network, sizeof record.network) == 0;
+    same = same_records(&record, expected);
     if (found == number && same && found_start == start && found_length == network_length)
         return 0;
     printf("%s: number %d, record %s, network ID at %zu, %zu bytes\n", name, found, same ? "right" : "wrong",
@@ -94,9 +83,25 @@ static int wrong(const char *name, const uint8_t *bytes, size_t length, uint8_t 
     return 1;
 }
 
+/* Whether arrays of a wrong length are taken or written to: refused before the frame is looked at. */
+static int takes(const char *name, const uint8_t *bytes, size_t length, struct lengths lent)
+{
+    struct record record, before;
+    uint8_t found;
+
+    memset(&record, 0x55, sizeof record);
+    before = record;
+    found = read_record(bytes, length, &record, lent);
+    if (found == TESOLVAGNA_OUTSIDE_LIMITS && same_records(&record, &before))
+        return 0;
+    printf("%s into cut arrays: number %d\n", name, found);
+    return 1;
+}
+
 int main(void)
 {
     int failures = 0;
+    size_t i;
 
     failures += wrong("whole", frame, sizeof frame, TESOLVAGNA_DONE, &said, sizeof frame - 3, 3);
     failures += wrong("without its last byte", frame, sizeof frame - 1, TESOLVAGNA_CUT, &blank, 0, 0);
@@ -104,5 +109,10 @@ int main(void)
     failures += wrong("empty", frame, 0, TESOLVAGNA_CUT, &blank, 0, 0);
     failures += wrong("longest", zeros, TESOLVAGNA_LONGEST_FRAME, TESOLVAGNA_NOT_A_BEACON, &blank, 0, 0);
     failures += wrong("a byte longer", zeros, TESOLVAGNA_LONGEST_FRAME + 1, TESOLVAGNA_TOO_LONG, &blank, 0, 0);
+    for (i = 0; i < sizeof cut / sizeof *cut; i++) {
+        failures += takes("whole", frame, sizeof frame, cut[i]);
+        failures += takes("without its last byte", frame, sizeof frame - 1, cut[i]);
+        failures += takes("a byte longer", zeros, sizeof zeros, cut[i]);
+    }
     return failures;
 }

@@ -1,15 +1,7 @@
 /* Writes records through the C header and reads them back; the exit status is the number of wrong answers. */
-#include "tesolvagna.h"
+#include "record.h"
 
 #include <stdio.h>
-#include <string.h>
-
-struct record {
-    uint64_t numbers[TESOLVAGNA_NUMBERS];
-    uint32_t timings[TESOLVAGNA_TIMINGS];
-    uint16_t links[TESOLVAGNA_LINK_NUMBERS];
-    uint8_t network[TESOLVAGNA_NETWORK_ID_BYTES];
-};
 
 /* A beacon with timings in their longer form, two links and joining information. */
 static const uint8_t frame[] = {
@@ -60,7 +52,8 @@ static const struct record said = {
 };
 
 /* Whether the record is written otherwise than expected into a room of so many bytes: on a refusal, not at all. */
-static int wrong(const char *name, const struct record *record, size_t room_length, uint8_t number)
+static int wrong_lent(const char *name, const struct record *record, struct lengths lent, size_t room_length,
+                      uint8_t number)
 {
     const size_t expected = number == TESOLVAGNA_DONE ? sizeof frame : 0;
     uint8_t room[256], copy[256];
@@ -71,13 +64,17 @@ static int wrong(const char *name, const struct record *record, size_t room_leng
     memset(room, 0x55, sizeof room);
     memset(copy, 0x55, sizeof copy);
     memcpy(copy, frame, expected);
-    found = tesolvagna_write(room, room_length, &record->numbers, &record->timings, &record->links, &record->network,
-                             &length);
+    found = write_record(room, room_length, record, lent, &length);
     same = memcmp(room, copy, sizeof room) == 0;
     if (found == number && length == expected && same)
         return 0;
     printf("%s: number %d, length %zu, room %s\n", name, found, length, same ? "right" : "wrong");
     return 1;
+}
+
+static int wrong(const char *name, const struct record *record, size_t room_length, uint8_t number)
+{
+    return wrong_lent(name, record, whole, room_length, number);
 }
 
 /* Whether the written frame is read as another record. */
@@ -88,15 +85,8 @@ static int differs(const char *name, const struct record *record)
     size_t length;
 
     memset(&found, 0x55, sizeof found);
-    if (tesolvagna_write(room, sizeof room, &record->numbers, &record->timings, &record->links, &record->network,
-                         &length)
-            == TESOLVAGNA_DONE
-        && tesolvagna_read(room, length, &found.numbers, &found.timings, &found.links, &found.network)
-               == TESOLVAGNA_DONE
-        && memcmp(found.numbers, record->numbers, sizeof found.numbers) == 0
-        && memcmp(found.timings, record->timings, sizeof found.timings) == 0
-        && memcmp(found.links, record->links, sizeof found.links) == 0
-        && memcmp(found.network, record->network, sizeof found.network) == 0)
+    if (write_record(room, sizeof room, record, whole, &length) == TESOLVAGNA_DONE
+        && read_record(room, length, &found, whole) == TESOLVAGNA_DONE && same_records(&found, record))
         return 0;
     printf("%s: not read back\n", name);
     return 1;
@@ -106,12 +96,15 @@ int main(void)
 {
     struct record record = said;
     int failures = 0;
+    size_t i;
 
     failures += wrong("room of 256 bytes", &record, 256, TESOLVAGNA_DONE);
     failures += wrong("room of the frame's length", &record, sizeof frame, TESOLVAGNA_DONE);
     failures += wrong("room a byte shorter", &record, sizeof frame - 1, TESOLVAGNA_NO_ROOM);
     failures += wrong("no room", &record, 0, TESOLVAGNA_NO_ROOM);
     failures += differs("record", &record);
+    for (i = 0; i < sizeof cut / sizeof *cut; i++)
+        failures += wrong_lent("cut arrays", &record, cut[i], 256, TESOLVAGNA_OUTSIDE_LIMITS);
 
     record.numbers[TESOLVAGNA_LINK_COUNT] = 8;
     failures += wrong("eight links, 124 bytes, no room", &record, 0, TESOLVAGNA_NO_ROOM);

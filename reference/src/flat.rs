@@ -5,33 +5,13 @@ use crate::frame::{Address, Beacon, Check, JoiningInformation, LONGEST_FRAME, LO
 use crate::refusal::{ADDRESSING, CUT, MISSING_OR_TWICE, NOT_A_BEACON, OUTSIDE_LIMITS, SECURED, SHAPE, TOO_LONG};
 use crate::slot::MOST_LINKS;
 
-/// Places of the record's numbers. What is absent is 0; R and P are flags, 0 or 1.
-pub const SEQUENCE_PRESENT: usize = 0;
-pub const SEQUENCE: usize = 1;
-pub const PAN: usize = 2;
-/// 0 for a short source address, 1 for an extended one.
-pub const SOURCE_KIND: usize = 3;
-pub const SOURCE: usize = 4;
-pub const ASN: usize = 5;
-pub const JOIN_METRIC: usize = 6;
-pub const TEMPLATE: usize = 7;
-pub const TIMINGS_PRESENT: usize = 8;
-pub const HOPPING: usize = 9;
-pub const HANDLE: usize = 10;
-pub const SIZE: usize = 11;
-pub const LINK_COUNT: usize = 12;
-pub const JOINING_PRESENT: usize = 13;
-pub const R: usize = 14;
-pub const P: usize = 15;
-pub const PROXY_PRIORITY: usize = 16;
-pub const RANK_PRIORITY: usize = 17;
-pub const PAN_PRIORITY: usize = 18;
-pub const PROXY: usize = 19;
-pub const NETWORK_LENGTH: usize = 20;
-pub const NUMBERS: usize = 21;
-
-/// A link has three places: timeslot, channel offset and options.
-pub const LINK_NUMBERS: usize = 3 * MOST_LINKS;
+/// Places of the record's numbers. What is absent is 0; R and P are flags, 0 or 1. A link has three places in its array.
+pub use crate::header::{
+    ASN, HOPPING_ID as HOPPING, JOINING_PRESENT, JOIN_METRIC, LINK_COUNT, LINK_NUMBERS, LINK_OFFSET, LINK_OPTIONS,
+    LINK_STRIDE, LINK_TIMESLOT, NETWORK_ID_LENGTH as NETWORK_LENGTH, NUMBERS, PAN_ID as PAN, PAN_PRIORITY,
+    PROXY_ADDRESS as PROXY, PROXY_PRESENT as P, PROXY_PRIORITY, RANK_PRIORITY, ROUTER as R, SEQUENCE, SEQUENCE_PRESENT,
+    SLOTFRAME_HANDLE as HANDLE, SLOTFRAME_SIZE as SIZE, SOURCE, SOURCE_KIND, TEMPLATE_ID as TEMPLATE, TIMINGS_PRESENT,
+};
 
 #[derive(Clone, Debug, PartialEq, Eq)]
 pub struct Flat {
@@ -89,8 +69,10 @@ fn lay_out_beacon(beacon: &Beacon, out: &mut Flat) {
     out.numbers[PROXY] = joining.proxy.unwrap_or(0);
     out.numbers[NETWORK_LENGTH] = joining.network_length as u64;
     out.timings = beacon.timings.unwrap_or_default();
-    for (places, link) in out.links.as_chunks_mut().0.iter_mut().zip(&beacon.links) {
-        *places = [link.timeslot, link.offset, link.options.into()];
+    for (places, link) in out.links.chunks_exact_mut(LINK_STRIDE).zip(&beacon.links) {
+        places[LINK_TIMESLOT] = link.timeslot;
+        places[LINK_OFFSET] = link.offset;
+        places[LINK_OPTIONS] = link.options.into();
     }
     out.network = joining.network;
 }
@@ -303,14 +285,14 @@ fn fill_slotframe(content: &[u8], met: &mut u8, out: &mut Flat) -> Result<(), u8
     out.numbers[HANDLE] = content[1].into();
     out.numbers[SIZE] = size.into();
     out.numbers[LINK_COUNT] = count as u64;
-    for (places, link) in out.links.chunks_exact_mut(3).zip(content[5..].chunks_exact(5)) {
+    for (places, link) in out.links.chunks_exact_mut(LINK_STRIDE).zip(content[5..].chunks_exact(5)) {
         let timeslot = le16(link, 0);
         if timeslot >= size {
             return Err(OUTSIDE_LIMITS);
         }
-        places[0] = timeslot;
-        places[1] = le16(link, 2);
-        places[2] = link[4].into();
+        places[LINK_TIMESLOT] = timeslot;
+        places[LINK_OFFSET] = le16(link, 2);
+        places[LINK_OPTIONS] = link[4].into();
     }
     Ok(())
 }

@@ -6,9 +6,7 @@
 use crate::refusal::{ADDRESSING, CUT, MISSING_OR_TWICE, NOT_A_BEACON, OUTSIDE_LIMITS, SECURED, SHAPE, TOO_LONG};
 use crate::slot::{Link, MOST_LINKS};
 
-pub const LONGEST_FRAME: usize = 125;
-pub const TIMINGS: usize = 12;
-pub const LONGEST_NETWORK_ID: usize = 16;
+pub use crate::header::{LONGEST_FRAME, NETWORK_ID_BYTES as LONGEST_NETWORK_ID, TIMINGS};
 
 /// Address modes in the frame control field.
 pub const SHORT: u16 = 2;

@@ -1,11 +1,12 @@
 //! The table's calls on lent numbers and lists, laid out as in the header: the reference in the library's place.
 
+use crate::header::{CALL_ADVERTISE, CALL_EVALUATE, CALL_FORGET, CALL_REPORT};
 use crate::refusal::OUTSIDE_LIMITS;
 use crate::stability::{self, Run};
-use crate::table::{Call, Numbers, Table, NO_RANK};
+use crate::table::{Call, Table, NO_RANK};
 
 /// The most calls that a log may have.
-pub const MOST_ROWS: usize = 65535;
+pub use crate::header::MOST_CALLS as MOST_ROWS;
 
 /// What a call gives besides the lent numbers: 0 or the refusal number, and an evaluation's own rank.
 #[derive(Clone, Copy, Debug, PartialEq, Eq)]
@@ -15,13 +16,13 @@ pub struct Reply {
 }
 
 /// The call on a lent table; a refusal writes nothing.
-pub fn call(numbers: &mut Numbers, call: &Call) -> Reply {
+pub fn call(numbers: &mut [u64], call: &Call) -> Reply {
     let Some(table) = Table::from_numbers(numbers) else {
         return Reply { number: OUTSIDE_LIMITS, own_rank: (*call == Call::Evaluate).then_some(NO_RANK) };
     };
     let answer = table.call(call);
     if answer.number == 0 {
-        *numbers = answer.table.to_numbers();
+        numbers.copy_from_slice(&answer.table.to_numbers());
     }
     Reply { number: answer.number, own_rank: answer.own_rank }
 }
@@ -69,11 +70,11 @@ impl Log {
             1 => true,
             _ => return None,
         };
-        match self.kinds[row] {
-            0 => Some(Call::Advertise { identifier, rank: value }),
-            1 => Some(Call::Report { identifier, attempts: u64::from(value), acknowledged }),
-            2 => Some(Call::Forget { identifier }),
-            3 => Some(Call::Evaluate),
+        match usize::from(self.kinds[row]) {
+            CALL_ADVERTISE => Some(Call::Advertise { identifier, rank: value }),
+            CALL_REPORT => Some(Call::Report { identifier, attempts: u64::from(value), acknowledged }),
+            CALL_FORGET => Some(Call::Forget { identifier }),
+            CALL_EVALUATE => Some(Call::Evaluate),
             _ => None,
         }
     }
@@ -122,14 +123,14 @@ impl Outcome {
 }
 
 /// Runs a log on a lent table; a refusal writes nothing.
-pub fn replay(numbers: &mut Numbers, log: &Log) -> Outcome {
+pub fn replay(numbers: &mut [u64], log: &Log) -> Outcome {
     let (Some(table), Some(calls)) = (Table::from_numbers(numbers), log.calls()) else {
         return Outcome::REFUSED;
     };
     let run = stability::run(&table, &calls);
     let outcome = Outcome::of(&run);
     if outcome.number == 0 {
-        *numbers = run.table.to_numbers();
+        numbers.copy_from_slice(&run.table.to_numbers());
     }
     outcome
 }

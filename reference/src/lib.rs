@@ -8,6 +8,7 @@ pub mod damage;
 pub mod flat;
 pub mod frame;
 pub mod frames;
+pub mod header;
 pub mod lent;
 #[cfg(feature = "library")]
 pub mod library;

@@ -1,11 +1,10 @@
 //! The static library's C interface, as its header declares it, and safe calls of it.
 
-use crate::flat::{Flat, LINK_NUMBERS, NUMBERS};
-use crate::frame::{LONGEST_NETWORK_ID, TIMINGS};
+use crate::flat::Flat;
 use crate::lent::{Log, Outcome, Reply};
 use crate::metric::JoinMetric;
 use crate::slot::{Link, Slot};
-use crate::table::{Call, Numbers, TABLE_NUMBERS};
+use crate::table::Call;
 use std::mem::{align_of, offset_of, size_of};
 use std::ops::Range;
 
@@ -28,15 +27,19 @@ unsafe extern "C" {
     pub safe fn tesolvagna_channel(asn: u64, offset: u16) -> u8;
 
     /// # Safety
-    /// `frame` is not null and valid for reading `length` bytes. The arrays are not null, aligned and valid for
-    /// writing. No two of the five overlap.
+    /// `frame` is not null and valid for reading `frame_length` bytes. Each array's pointer is not null, aligned and valid
+    /// for writing as many entries as its length says. No two of the five overlap.
     pub unsafe fn tesolvagna_read(
         frame: *const u8,
-        length: usize,
-        numbers: *mut [u64; NUMBERS],
-        timings: *mut [u32; TIMINGS],
-        links: *mut [u16; LINK_NUMBERS],
-        network: *mut [u8; LONGEST_NETWORK_ID],
+        frame_length: usize,
+        numbers: *mut u64,
+        numbers_length: usize,
+        timings: *mut u32,
+        timings_length: usize,
+        links: *mut u16,
+        links_length: usize,
+        network: *mut u8,
+        network_length: usize,
     ) -> u8;
 
     /// # Safety
@@ -45,15 +48,20 @@ unsafe extern "C" {
     pub unsafe fn tesolvagna_network_id(frame: *const u8, length: usize, start: *mut usize) -> usize;
 
     /// # Safety
-    /// `room` is not null and valid for writing `room_length` bytes; the arrays are not null, aligned and valid for
-    /// reading; `length` is not null, aligned and valid for writing. Neither `room` nor `length` overlaps another.
+    /// `room` is not null and valid for writing `room_length` bytes. Each array's pointer is not null, aligned and valid
+    /// for reading as many entries as its length says; `length` is not null, aligned and valid for writing. Neither
+    /// `room` nor `length` overlaps another.
     pub unsafe fn tesolvagna_write(
         room: *mut u8,
         room_length: usize,
-        numbers: *const [u64; NUMBERS],
-        timings: *const [u32; TIMINGS],
-        links: *const [u16; LINK_NUMBERS],
-        network: *const [u8; LONGEST_NETWORK_ID],
+        numbers: *const u64,
+        numbers_length: usize,
+        timings: *const u32,
+        timings_length: usize,
+        links: *const u16,
+        links_length: usize,
+        network: *const u8,
+        network_length: usize,
         length: *mut usize,
     ) -> u8;
 }
@@ -92,7 +100,6 @@ pub struct Replayed {
 
 // The C program that is tested with the header finds the same sizes and offsets.
 const _: () = {
-    assert!(TABLE_NUMBERS == 162);
     assert!(size_of::<Evaluated>() == 4 && align_of::<Evaluated>() == 2);
     assert!(offset_of!(Evaluated, number) == 0 && offset_of!(Evaluated, rank) == 2);
     assert!(size_of::<JoinMetric>() == 2 && align_of::<JoinMetric>() == 1);
@@ -104,36 +111,38 @@ const _: () = {
     assert!(offset_of!(Replayed, applies) == 48);
 };
 
-// A table is lent as a reference to its numbers, which is all that those calls ask of a pointer.
 unsafe extern "C" {
     /// Reads no memory.
     pub safe fn tesolvagna_increment(attempts: u16, acked: u16) -> u32;
 
     /// Reads no memory.
     pub safe fn tesolvagna_join_metric(rank: u16) -> JoinMetric;
+}
 
-    pub safe fn tesolvagna_advertise(table: &mut Numbers, id: u64, rank: u16) -> u8;
+// Of each call: the pointers are aligned, not null and valid for as many entries as their lengths say, a table's also for
+// writing.
+unsafe extern "C" {
+    fn tesolvagna_empty(table: *mut u64, table_length: usize) -> u8;
 
-    pub safe fn tesolvagna_report(table: &mut Numbers, id: u64, attempts: u16, acked: bool) -> u8;
+    fn tesolvagna_advertise(table: *mut u64, table_length: usize, id: u64, rank: u16) -> u8;
 
-    pub safe fn tesolvagna_forget(table: &mut Numbers, id: u64) -> u8;
+    fn tesolvagna_report(table: *mut u64, table_length: usize, id: u64, attempts: u16, acked: bool) -> u8;
 
-    pub safe fn tesolvagna_empty(table: &mut Numbers);
+    fn tesolvagna_forget(table: *mut u64, table_length: usize, id: u64) -> u8;
 
-    pub safe fn tesolvagna_evaluate(table: &mut Numbers) -> Evaluated;
+    fn tesolvagna_evaluate(table: *mut u64, table_length: usize) -> Evaluated;
 
-    /// # Safety
-    /// Each list's pointer is aligned, not null and valid for reading as many entries as its length says.
-    pub unsafe fn tesolvagna_replay(
-        table: &mut Numbers,
+    fn tesolvagna_replay(
+        table: *mut u64,
+        table_length: usize,
         kinds: *const u8,
-        kinds_len: usize,
+        kinds_length: usize,
         ids: *const u64,
-        ids_len: usize,
+        ids_length: usize,
         values: *const u16,
-        values_len: usize,
+        values_length: usize,
         flags: *const u8,
-        flags_len: usize,
+        flags_length: usize,
     ) -> Replayed;
 }
 
@@ -147,28 +156,35 @@ pub fn join_metric(rank: u16) -> JoinMetric {
     tesolvagna_join_metric(rank)
 }
 
-pub fn advertise(numbers: &mut Numbers, identifier: u64, rank: u16) -> u8 {
-    tesolvagna_advertise(numbers, identifier, rank)
+// A slice's pointer is aligned, not null and valid for its length, also when that is 0: all that these calls ask.
+
+pub fn empty(numbers: &mut [u64]) -> u8 {
+    // SAFETY: as above.
+    unsafe { tesolvagna_empty(numbers.as_mut_ptr(), numbers.len()) }
 }
 
-pub fn report(numbers: &mut Numbers, identifier: u64, attempts: u16, acknowledged: bool) -> u8 {
-    tesolvagna_report(numbers, identifier, attempts, acknowledged)
+pub fn advertise(numbers: &mut [u64], identifier: u64, rank: u16) -> u8 {
+    // SAFETY: as above.
+    unsafe { tesolvagna_advertise(numbers.as_mut_ptr(), numbers.len(), identifier, rank) }
 }
 
-pub fn empty(numbers: &mut Numbers) {
-    tesolvagna_empty(numbers)
+pub fn report(numbers: &mut [u64], identifier: u64, attempts: u16, acknowledged: bool) -> u8 {
+    // SAFETY: as above.
+    unsafe { tesolvagna_report(numbers.as_mut_ptr(), numbers.len(), identifier, attempts, acknowledged) }
 }
 
-pub fn forget(numbers: &mut Numbers, identifier: u64) -> u8 {
-    tesolvagna_forget(numbers, identifier)
+pub fn forget(numbers: &mut [u64], identifier: u64) -> u8 {
+    // SAFETY: as above.
+    unsafe { tesolvagna_forget(numbers.as_mut_ptr(), numbers.len(), identifier) }
 }
 
-pub fn evaluate(numbers: &mut Numbers) -> Evaluated {
-    tesolvagna_evaluate(numbers)
+pub fn evaluate(numbers: &mut [u64]) -> Evaluated {
+    // SAFETY: as above.
+    unsafe { tesolvagna_evaluate(numbers.as_mut_ptr(), numbers.len()) }
 }
 
 /// The library's answer to a call; attempts have 16 bits.
-pub fn call(numbers: &mut Numbers, call: &Call) -> Reply {
+pub fn call(numbers: &mut [u64], call: &Call) -> Reply {
     let other = |number: u8| Reply { number, own_rank: None };
     match *call {
         Call::Advertise { identifier, rank } => other(advertise(numbers, identifier, rank)),
@@ -184,11 +200,12 @@ pub fn call(numbers: &mut Numbers, call: &Call) -> Reply {
 }
 
 /// The library's replay; the lists of the log may differ in length.
-pub fn replay(numbers: &mut Numbers, log: &Log) -> Replayed {
+pub fn replay(numbers: &mut [u64], log: &Log) -> Replayed {
     // SAFETY: a list's pointer is aligned, not null and valid for its length, also when that is 0.
     unsafe {
         tesolvagna_replay(
-            numbers,
+            numbers.as_mut_ptr(),
+            numbers.len(),
             log.kinds.as_ptr(),
             log.kinds.len(),
             log.identifiers.as_ptr(),
@@ -218,8 +235,26 @@ impl Replayed {
 /// The library's reading of a frame: lays the record out and gives the number.
 pub fn read(frame: &[u8], record: &mut Flat) -> u8 {
     let Flat { numbers, timings, links, network } = record;
-    // SAFETY: a slice's pointer is not null and valid for its length; the arrays are borrowed, each on its own.
-    unsafe { tesolvagna_read(frame.as_ptr(), frame.len(), numbers, timings, links, network) }
+    read_into(frame, numbers, timings, links, network)
+}
+
+/// The same into slices of any length.
+pub fn read_into(frame: &[u8], numbers: &mut [u64], timings: &mut [u32], links: &mut [u16], network: &mut [u8]) -> u8 {
+    // SAFETY: a slice's pointer is aligned, not null and valid for its length; each slice is borrowed on its own.
+    unsafe {
+        tesolvagna_read(
+            frame.as_ptr(),
+            frame.len(),
+            numbers.as_mut_ptr(),
+            numbers.len(),
+            timings.as_mut_ptr(),
+            timings.len(),
+            links.as_mut_ptr(),
+            links.len(),
+            network.as_mut_ptr(),
+            network.len(),
+        )
+    }
 }
 
 /// Where the library finds the network ID in a frame.
@@ -233,10 +268,28 @@ pub fn network_id(frame: &[u8]) -> Range<usize> {
 /// The library's writing of a record: gives the number and the frame's length.
 pub fn write(record: &Flat, room: &mut [u8]) -> (u8, usize) {
     let Flat { numbers, timings, links, network } = record;
+    write_from(numbers, timings, links, network, room)
+}
+
+/// The same from slices of any length.
+pub fn write_from(numbers: &[u64], timings: &[u32], links: &[u16], network: &[u8], room: &mut [u8]) -> (u8, usize) {
     let mut length = usize::MAX;
-    // SAFETY: a slice's pointer is not null and valid for its length; the arrays are borrowed, and neither the room nor
-    // `length`, a variable of its own, is part of them.
-    let number =
-        unsafe { tesolvagna_write(room.as_mut_ptr(), room.len(), numbers, timings, links, network, &mut length) };
+    // SAFETY: a slice's pointer is aligned, not null and valid for its length; neither the room, which is borrowed on its
+    // own, nor `length`, a variable of its own, is part of another.
+    let number = unsafe {
+        tesolvagna_write(
+            room.as_mut_ptr(),
+            room.len(),
+            numbers.as_ptr(),
+            numbers.len(),
+            timings.as_ptr(),
+            timings.len(),
+            links.as_ptr(),
+            links.len(),
+            network.as_ptr(),
+            network.len(),
+            &mut length,
+        )
+    };
     (number, length)
 }

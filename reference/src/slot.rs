@@ -11,14 +11,10 @@ pub struct Link {
     pub options: u8,
 }
 
-/// Option bit 0: the link may transmit.
-pub const TRANSMIT_BIT: u8 = 1;
-/// Option bit 1: the link may receive.
-pub const RECEIVE_BIT: u8 = 2;
-
-pub const SLEEP: u8 = 0;
-pub const TRANSMIT: u8 = 1;
-pub const LISTEN: u8 = 2;
+/// Actions, and the option bits of a link that may transmit and of one that may receive.
+pub use crate::header::{
+    LISTEN, MOST_LINKS, OPTION_RECEIVE as RECEIVE_BIT, OPTION_TRANSMIT as TRANSMIT_BIT, SLEEP, TRANSMIT,
+};
 
 /// The answer: `number` is 0 or the refusal number; `place` counts the lent links from 0.
 #[derive(Clone, Copy, Debug, PartialEq, Eq)]
@@ -31,7 +27,6 @@ pub struct Slot {
 }
 
 pub const LARGEST_ASN: u64 = (1 << 40) - 1;
-pub const MOST_LINKS: usize = 16;
 
 /// Default hopping sequence of the 2.4 GHz O-QPSK PHY.
 pub const HOPPING_SEQUENCE: [u8; 16] = [16, 17, 23, 18, 26, 15, 25, 22, 19, 11, 12, 13, 24, 14, 20, 21];

@@ -1,9 +1,13 @@
 //! The neighbour table and its calls: the reference for advertise, report, forget and evaluate.
 
+use crate::header::{
+    NEIGHBOUR_ACKNOWLEDGED, NEIGHBOUR_ATTEMPTS, NEIGHBOUR_ID, NEIGHBOUR_IN_USE, NEIGHBOUR_RANK, PARENT_ID,
+    PARENT_PRESENT,
+};
 use crate::metric;
 use crate::refusal::{OUTSIDE_LIMITS, TABLE_FULL, UNKNOWN_NEIGHBOUR};
 
-pub const PLACES: usize = 32;
+pub use crate::header::NEIGHBOURS as PLACES;
 
 /// The largest number of attempts that a place may count.
 pub const MOST_ATTEMPTS: u64 = 255;
@@ -12,7 +16,7 @@ pub const MOST_ATTEMPTS: u64 = 255;
 pub const THRESHOLD: i128 = 640;
 
 /// The rank of a node without a parent.
-pub const NO_RANK: u16 = 65535;
+pub const NO_RANK: u16 = crate::header::NO_RANK as u16;
 
 /// One place. The counters are wide, so that a table over its limits can be given.
 #[derive(Clone, Copy, Debug, Default, PartialEq, Eq)]
@@ -178,11 +182,8 @@ impl Table {
     }
 }
 
-/// How many numbers a place has when a table is laid out flat.
-pub const PLACE_NUMBERS: usize = 5;
-
-/// How many numbers a table has when it is laid out flat.
-pub const TABLE_NUMBERS: usize = PLACE_NUMBERS * PLACES + 2;
+/// How many numbers a place and a table have when they are laid out flat.
+pub use crate::header::{NEIGHBOUR_STRIDE as PLACE_NUMBERS, TABLE_NUMBERS};
 
 /// A table laid out flat.
 pub type Numbers = [u64; TABLE_NUMBERS];
@@ -193,22 +194,26 @@ impl Table {
     pub fn to_numbers(&self) -> Numbers {
         let mut numbers = [0; TABLE_NUMBERS];
         for (row, place) in numbers.chunks_exact_mut(PLACE_NUMBERS).zip(&self.places) {
-            row[0] = u64::from(place.used);
-            row[1] = place.identifier;
-            row[2] = u64::from(place.rank);
-            row[3] = place.attempts;
-            row[4] = place.acknowledged;
+            row[NEIGHBOUR_IN_USE] = u64::from(place.used);
+            row[NEIGHBOUR_ID] = place.identifier;
+            row[NEIGHBOUR_RANK] = u64::from(place.rank);
+            row[NEIGHBOUR_ATTEMPTS] = place.attempts;
+            row[NEIGHBOUR_ACKNOWLEDGED] = place.acknowledged;
         }
         if let Some(held) = self.held {
-            numbers[TABLE_NUMBERS - 2] = 1;
-            numbers[TABLE_NUMBERS - 1] = held;
+            numbers[PARENT_PRESENT] = 1;
+            numbers[PARENT_ID] = held;
         }
         numbers
     }
 
-    /// The table that these numbers lay out; none if they lay out no table (a mark over 1, a rank over 16 bits, an
-    /// identifier beside the mark of no parent). A counter over 16 bits needs no test: such a table is not sound.
-    pub fn from_numbers(numbers: &Numbers) -> Option<Table> {
+    /// The table that these numbers lay out; none if they lay out no table (too few or too many, a mark over 1, a rank
+    /// over 16 bits, an identifier beside the mark of no parent). A counter over 16 bits needs no test: such a table is
+    /// not sound.
+    pub fn from_numbers(numbers: &[u64]) -> Option<Table> {
+        if numbers.len() != TABLE_NUMBERS {
+            return None;
+        }
         let mark = |number: u64| match number {
             0 => Some(false),
             1 => Some(true),
@@ -217,14 +222,14 @@ impl Table {
         let mut table = Table::default();
         for (row, place) in numbers.chunks_exact(PLACE_NUMBERS).zip(&mut table.places) {
             *place = Place {
-                used: mark(row[0])?,
-                identifier: row[1],
-                rank: u16::try_from(row[2]).ok()?,
-                attempts: row[3],
-                acknowledged: row[4],
+                used: mark(row[NEIGHBOUR_IN_USE])?,
+                identifier: row[NEIGHBOUR_ID],
+                rank: u16::try_from(row[NEIGHBOUR_RANK]).ok()?,
+                attempts: row[NEIGHBOUR_ATTEMPTS],
+                acknowledged: row[NEIGHBOUR_ACKNOWLEDGED],
             };
         }
-        table.held = match (mark(numbers[TABLE_NUMBERS - 2])?, numbers[TABLE_NUMBERS - 1]) {
+        table.held = match (mark(numbers[PARENT_PRESENT])?, numbers[PARENT_ID]) {
             (true, held) => Some(held),
             (false, 0) => None,
             (false, _) => return None,
@@ -412,10 +417,10 @@ mod tests {
         let given = Table { held: Some(u64::MAX), ..table(&[place(u64::MAX, 65535, 300, 7)], None) };
         let numbers = given.to_numbers();
         assert_eq!(numbers[..6], [1, u64::MAX, 65535, 300, 7, 0]);
-        assert_eq!(numbers[160..], [1, u64::MAX]);
+        assert_eq!(numbers[PARENT_PRESENT..], [1, u64::MAX]);
         assert_eq!(Table::from_numbers(&numbers), Some(given));
         assert_eq!(Table::from_numbers(&Table::default().to_numbers()), Some(Table::default()));
-        for (index, number) in [(155, 2), (157, 65536), (160, 2), (160, 0)] {
+        for (index, number) in [(155, 2), (157, 65536), (PARENT_PRESENT, 2), (PARENT_PRESENT, 0)] {
             let mut wrong = numbers;
             wrong[index] = number;
             assert_eq!(Table::from_numbers(&wrong), None, "number {index} is {number}");

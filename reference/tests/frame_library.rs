@@ -81,10 +81,14 @@ impl Receiver {
             library::tesolvagna_read(
                 bytes,
                 frame.len(),
-                &mut room.numbers,
-                &mut room.timings,
-                &mut room.links,
-                &mut room.network,
+                room.numbers.as_mut_ptr(),
+                room.numbers.len(),
+                room.timings.as_mut_ptr(),
+                room.timings.len(),
+                room.links.as_mut_ptr(),
+                room.links.len(),
+                room.network.as_mut_ptr(),
+                room.network.len(),
             )
         };
         // SAFETY: as above; `start` is a variable of its own.
@@ -166,4 +170,31 @@ fn no_bytes_are_refused() {
     record.numbers.fill(GUARD);
     assert_eq!((library::read(&[], &mut record), record), (2, BLANK));
     assert_eq!(library::network_id(&[]), 0..0);
+}
+
+/// Arrays of which one has another length than its own: refused before the frame is looked at, with nothing written.
+#[test]
+fn arrays_of_another_length() {
+    let own = [NUMBERS, TIMINGS, LINK_NUMBERS, LONGEST_NETWORK_ID];
+    let whole = worked::bytes(worked::MINIMAL);
+    let frames: [&[u8]; 4] = [&whole, &whole[..37], &[], &[0; 126]];
+    for array in 0..own.len() {
+        for length in (0..64).filter(|&length| length != own[array]) {
+            let mut lengths = own;
+            lengths[array] = length;
+            for frame in frames {
+                let mut numbers = vec![GUARD; lengths[0]];
+                let mut timings = vec![0x5555_5555; lengths[1]];
+                let mut links = vec![0x5555; lengths[2]];
+                let mut network = vec![0x55; lengths[3]];
+                let number = library::read_into(frame, &mut numbers, &mut timings, &mut links, &mut network);
+                assert_eq!(number, 8, "lengths {lengths:?}");
+                let kept = numbers.iter().all(|&number| number == GUARD)
+                    && timings.iter().all(|&timing| timing == 0x5555_5555)
+                    && links.iter().all(|&link| link == 0x5555)
+                    && network.iter().all(|&byte| byte == 0x55);
+                assert!(kept, "lengths {lengths:?}: refused, but written");
+            }
+        }
+    }
 }

@@ -343,16 +343,40 @@ fn refused_logs() {
     }
 }
 
-/// A log without calls is run: nothing is counted, and the table stays.
+/// Lists of numbers of every other length to 200, on a sound table and on noise: refused by every call, with nothing written.
+#[test]
+fn tables_of_another_length() {
+    let mut random = Random::new(0x162);
+    let sound = neighbours(PLACES, Some(100)).to_numbers();
+    for length in (0..=200).filter(|&length| length != TABLE_NUMBERS) {
+        let cut: Vec<u64> = sound.iter().copied().chain(std::iter::repeat(0)).take(length).collect();
+        let noise: Vec<u64> = (0..length).map(|_| random.number()).collect();
+        for before in [cut, noise] {
+            let mut numbers = before.clone();
+            assert_eq!(library::empty(&mut numbers), 8, "{length} numbers");
+            for call in every_call(100, 7) {
+                let refused = Reply { number: 8, own_rank: (call == Call::Evaluate).then_some(NO_RANK) };
+                assert_eq!(lent::call(&mut numbers, &call), refused, "reference, {length} numbers, {call:?}");
+                assert_eq!(library::call(&mut numbers, &call), refused, "library, {length} numbers, {call:?}");
+            }
+            let log = Log::of(&every_call(100, 7));
+            assert!(library::replay(&mut numbers, &log).agrees(&Outcome::REFUSED), "{length} numbers");
+            assert_eq!(numbers, before, "{length} numbers");
+        }
+    }
+}
+
+/// What the numbers were does not matter.
 #[test]
 fn empty_table() {
     let mut lent = Lent::new(&[7; TABLE_NUMBERS]);
-    library::empty(lent.numbers());
+    assert_eq!(library::empty(lent.numbers()), 0);
     black_box(&mut lent);
     assert_eq!(lent, Lent::new(&[0; TABLE_NUMBERS]));
     assert_eq!(lent, Lent::of(&neighbours(0, None)));
 }
 
+/// A log without calls is run: nothing is counted, and the table stays.
 #[test]
 fn empty_log() {
     let mut random = Random::new(0xE);
@@ -593,7 +617,7 @@ fn join_metrics_of_all_ranks() {
 }
 
 /// The library and the reference on lent numbers.
-type TableCall = fn(&mut Numbers, &Call) -> Reply;
+type TableCall = fn(&mut [u64], &Call) -> Reply;
 const SIDES: [(&str, TableCall); 2] = [("library", library::call), ("reference", lent::call)];
 
 /// The rules' own examples; those of channels stand with the slot decision's tests.

@@ -83,10 +83,14 @@ fn write(flat: &Flat, mut memory: [u8; MEMORY], start: usize, room: usize) -> An
         library::tesolvagna_write(
             memory_pointer.add(start),
             room,
-            &raw mut (*lent_pointer).numbers,
-            &raw mut (*lent_pointer).timings,
-            &raw mut (*lent_pointer).links,
-            &raw mut (*lent_pointer).network,
+            (&raw mut (*lent_pointer).numbers).cast(),
+            NUMBERS,
+            (&raw mut (*lent_pointer).timings).cast(),
+            TIMINGS,
+            (&raw mut (*lent_pointer).links).cast(),
+            LINK_NUMBERS,
+            (&raw mut (*lent_pointer).network).cast(),
+            LONGEST_NETWORK_ID,
             &raw mut (*length_pointer).length,
         )
     };
@@ -208,4 +212,29 @@ fn no_room() {
     flat.numbers[TIMINGS_PRESENT] = 1;
     assert_eq!(frame_length(&Record::from_flat(&flat).expect("a record")), 137);
     assert_eq!(library::write(&flat, &mut []), (1, 0));
+}
+
+/// Arrays of which one has another length than its own are no record's, also where what they lack or add is zero.
+#[test]
+fn arrays_of_another_length() {
+    let own = [NUMBERS, TIMINGS, LINK_NUMBERS, LONGEST_NETWORK_ID];
+    let mut record = BLANK;
+    assert_eq!(library::read(&worked::bytes(worked::MINIMAL), &mut record), 0);
+    for array in 0..own.len() {
+        for length in (0..64).filter(|&length| length != own[array]) {
+            let mut lengths = own;
+            lengths[array] = length;
+            let mut numbers = record.numbers.to_vec();
+            let mut timings = record.timings.to_vec();
+            let mut links = record.links.to_vec();
+            let mut network = record.network.to_vec();
+            numbers.resize(lengths[0], 0);
+            timings.resize(lengths[1], 0);
+            links.resize(lengths[2], 0);
+            network.resize(lengths[3], 0);
+            let mut room = [0x55; 125];
+            let answer = library::write_from(&numbers, &timings, &links, &network, &mut room);
+            assert_eq!((answer, room), ((8, 0), [0x55; 125]), "lengths {lengths:?}");
+        }
+    }
 }
