@@ -5,7 +5,7 @@ ghost use Prim.Native.Nat.{_+_, _<_, _≤_};
 ghost use lib.ListN.{length, take, drop};
 ghost use Rattle.reading.specs.Read.{readFrame};
 ghost use Rattle.io.specs.Counts.{Counts};
-ghost use Rattle.line.specs.Line.{decimal, field, synchronizationText, slotframeText, acceptedText, refusedText, lineOf, PartPut};
+ghost use Rattle.line.specs.Line.{decimal, field, synchronizationText, slotframeText, acceptedText, refusedText, lineOf, newline, PartPut};
 use beacon::Beacon;
 use beacon::refusal::DONE;
 
@@ -20,6 +20,14 @@ fn put_text(room: &mut [u8], at: usize, text: &[u8]) -> usize
         i += 1;
     }
     at + i
+}
+
+fn put_newline(room: &mut [u8], at: usize) -> usize
+    requires { ⌜ at < length (now room) ⌝ }
+    ensures { λ r. ⌜ PartPut (now (room .entry)) at newline (now (room .exit)) r ⌝ }
+{
+    room[at] = b'\n';
+    at + 1
 }
 
 fn put_decimal(room: &mut [u8], at: usize, n: u64) -> usize
@@ -53,7 +61,7 @@ fn put_slotframe(room: &mut [u8], at: usize, size: u16, links: u8) -> usize
 {
     let next = put_field(room, at, b" size ", size as u64);
     let last = put_field(room, next, b" links ", links as u64);
-    put_text(room, last, b"\n")
+    put_newline(room, last)
 }
 
 fn put_accepted(room: &mut [u8], b: Beacon) -> usize
@@ -69,7 +77,7 @@ fn put_refused(room: &mut [u8], number: u8) -> usize
     ensures { λ r. ⌜ PartPut (now (room .entry)) 0 (refusedText number) (now (room .exit)) r × (r ≤ 128) ⌝ }
 {
     let last = put_field(room, 0, b"refused ", number as u64);
-    put_text(room, last, b"\n")
+    put_newline(room, last)
 }
 
 // Reads a frame, puts its line at the start of the room, and answers how many bytes the line has. A room of under 128 bytes is left as

@@ -9,6 +9,8 @@ use reading::Examination;
 use walk::Headed;
 use walk::Walk;
 
+pub mod opening_fault;
+
 fn headed_walk(head: Headed) -> Walk
     ensures { λ r. ⌜ r ≡ headedWalk head ⌝ }
 {
@@ -47,7 +49,7 @@ fn elements_place(s: &[u8]) -> usize
 fn elements_walk(s: &[u8], at: usize, end: usize) -> Walk
     ensures { λ r. ⌜ r ≡ elementsWalk (now (s .entry)) at end ⌝ }
 {
-    let head = header_list::header_list(s, at, end);
+    let head = element_lists::header_list::header_list(s, at, end);
     let start = headed_walk(head);
     if head.fault != 0 {
         return start;
@@ -56,7 +58,7 @@ fn elements_walk(s: &[u8], at: usize, end: usize) -> Walk
         return start;
     }
     let payload = head.payload;
-    payload_list::payload_list(s, payload, end, start)
+    element_lists::payload_list::payload_list(s, payload, end, start)
 }
 
 // Missing elements are judged last.
@@ -93,7 +95,7 @@ pub fn examine(s: &[u8]) -> Examination
     ensures answer { λ r. ⌜ r ≡ examined (now (s .entry)) ⌝ }
     ensures inside { λ _. ⌜ AcceptedLiesInside ⌝ }
 {
-    let fault = opening_fault::opening_fault(s);
+    let fault = crate::opening_fault::opening_fault(s);
     if fault != DONE {
         return Examination {
             number: fault,

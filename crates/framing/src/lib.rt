@@ -7,12 +7,15 @@ ghost use Rattle.octets.specs.Number.{stored};
 ghost use Rattle.frame.specs.Frame.{headerDescriptor, joiningBytes, beaconGroup, frameOf};
 use beacon::Beacon;
 
+pub mod joining;
+pub mod opening;
+
 // The bytes of the header list's terminator and of the MLME group, in which sixteen links at most are written.
 fn before_joining(b: Beacon) -> usize
     ensures { λ r. ⌜ (r ≡ 2 + length (beaconGroup b)) × (r ≤ 1326) ⌝ }
 {
     let used = frame::at_most_16(b.slotframe.count);
-    4 + group_sizes::group_size(b.timeslot, used as u8)
+    4 + sizes::group_sizes::group_size(b.timeslot, used as u8)
 }
 
 // The elements: the header list's terminator, the MLME group, joining information.
@@ -32,7 +35,7 @@ fn put_elements(room: &mut [u8], at: usize, b: Beacon)
         b.hopping,
         b.slotframe,
     );
-    joining::put_joining(room, at + size, b.joining);
+    crate::joining::put_joining(room, at + size, b.joining);
 }
 
 // The frame at the room's start.
@@ -42,6 +45,6 @@ pub fn put_frame(room: &mut [u8], b: Beacon)
     let sequence = b.sequence;
     let source = b.source;
     let at = 6 + sizes::sequence_size(sequence) + sizes::source_size(source);
-    opening::put_opening(room, sequence, b.pan, source);
+    crate::opening::put_opening(room, sequence, b.pan, source);
     put_elements(room, at, b);
 }

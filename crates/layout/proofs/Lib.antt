@@ -1,1 +1,2 @@
 pub mod JoinedLaws
+pub mod LayingLaws

@@ -1,6 +1,7 @@
 // The record that lent numbers are (lent_record/specs/Record.antt), read whatever the lengths of the lent slices.
 ghost use mathlib.Core.Path.{_≡_};
 ghost use Prim.Native.Nat.{_%_, _<_};
+ghost use lib.Dec.{eqb};
 ghost use Rattle.octets.specs.Counted.{counted};
 ghost use Rattle.lent_record.specs.Record.{numberAt, sequenceFrom, sourceFrom, synchronizationFrom, templateFrom, linkFrom, slotframeFrom, joiningFrom, beaconOf};
 use beacon::Address;
@@ -12,19 +13,8 @@ use beacon::Slotframe;
 use beacon::Synchronization;
 use beacon::TimeslotTemplate;
 
-// A number in 8 bits.
-fn low8(x: u64) -> u8
-    ensures { λ r. ⌜ r ≡ x % 256 ⌝ }
-{
-    (x % 256) as u8
-}
-
-// A number in 16 bits.
-fn low16(x: u64) -> u16
-    ensures { λ r. ⌜ r ≡ x % 65536 ⌝ }
-{
-    (x % 65536) as u16
-}
+pub mod lent_check;
+pub mod lent_links;
 
 // The number at a place of a lent slice, 0 past its end.
 fn number(xs: &[u64], i: usize) -> u64
@@ -34,6 +24,27 @@ fn number(xs: &[u64], i: usize) -> u64
         return xs[i];
     }
     0
+}
+
+// The number at a place, in 8 bits.
+fn low8(xs: &[u64], i: usize) -> u8
+    ensures { λ r. ⌜ r ≡ numberAt (now (xs .entry)) i % 256 ⌝ }
+{
+    (number(xs, i) % 256) as u8
+}
+
+// The number at a place, in 16 bits.
+fn low16(xs: &[u64], i: usize) -> u16
+    ensures { λ r. ⌜ r ≡ numberAt (now (xs .entry)) i % 65536 ⌝ }
+{
+    (number(xs, i) % 65536) as u16
+}
+
+// Whether the number at a place is 1.
+fn is_one(xs: &[u64], i: usize) -> bool
+    ensures { λ r. ⌜ r ≡ eqb (numberAt (now (xs .entry)) i) 1 ⌝ }
+{
+    number(xs, i) == 1
 }
 
 fn timing(xs: &[u32], i: usize) -> u32
@@ -61,18 +72,6 @@ fn network_byte(xs: &[u8], i: usize) -> u8
         return xs[i];
     }
     0
-}
-
-fn all_numbers(xs: &[u64]) -> [u64; 21]
-    ensures { λ r. ⌜ r ≡ counted (numberAt (now (xs .entry))) 21 ⌝ }
-{
-    let mut all = [0u64; 21];
-    let mut i = 0;
-    while i < 21 {
-        all[i] = number(xs, i);
-        i += 1;
-    }
-    all
 }
 
 fn all_timings(xs: &[u32]) -> [u32; 12]
@@ -122,70 +121,67 @@ fn links_of(links: &[u16]) -> [Link; 16]
     all
 }
 
-fn sequence(present: u64, n: u64) -> SequenceNumber
-    ensures { λ r. ⌜ r ≡ sequenceFrom present n ⌝ }
+fn sequence(numbers: &[u64]) -> SequenceNumber
+    ensures { λ r. ⌜ r ≡ sequenceFrom (numberAt (now (numbers .entry)) 0) (numberAt (now (numbers .entry)) 1) ⌝ }
 {
-    if present == 0 {
+    if number(numbers, 0) == 0 {
         return SequenceNumber::Absent;
     }
-    SequenceNumber::Number(low8(n))
+    SequenceNumber::Number(low8(numbers, 1))
 }
 
-fn source(kind: u64, n: u64) -> Address
-    ensures { λ r. ⌜ r ≡ sourceFrom kind n ⌝ }
+fn source(numbers: &[u64]) -> Address
+    ensures { λ r. ⌜ r ≡ sourceFrom (numberAt (now (numbers .entry)) 3) (numberAt (now (numbers .entry)) 4) ⌝ }
 {
-    if kind == 0 {
-        return Address::Short(low16(n));
+    if number(numbers, 3) == 0 {
+        return Address::Short(low16(numbers, 4));
     }
-    Address::Extended(n)
+    Address::Extended(number(numbers, 4))
 }
 
-fn synchronization(numbers: [u64; 21]) -> Synchronization
-    ensures { λ r. ⌜ r ≡ synchronizationFrom numbers ⌝ }
+fn synchronization(numbers: &[u64]) -> Synchronization
+    ensures { λ r. ⌜ r ≡ synchronizationFrom (now (numbers .entry)) ⌝ }
 {
     Synchronization {
-        asn: numbers[5],
-        metric: low8(numbers[6]),
+        asn: number(numbers, 5),
+        metric: low8(numbers, 6),
     }
 }
 
-fn template(numbers: [u64; 21], timings: &[u32]) -> TimeslotTemplate
-    ensures { λ r. ⌜ r ≡ templateFrom numbers (now (timings .entry)) ⌝ }
+fn template(numbers: &[u64], timings: &[u32]) -> TimeslotTemplate
+    ensures { λ r. ⌜ r ≡ templateFrom (now (numbers .entry)) (now (timings .entry)) ⌝ }
 {
-    let all = all_timings(timings);
     TimeslotTemplate {
-        id: low8(numbers[7]),
-        timed: numbers[8] == 1,
-        timings: all,
+        id: low8(numbers, 7),
+        timed: is_one(numbers, 8),
+        timings: all_timings(timings),
     }
 }
 
-fn slotframe(numbers: [u64; 21], links: &[u16]) -> Slotframe
-    ensures { λ r. ⌜ r ≡ slotframeFrom numbers (now (links .entry)) ⌝ }
+fn slotframe(numbers: &[u64], links: &[u16]) -> Slotframe
+    ensures { λ r. ⌜ r ≡ slotframeFrom (now (numbers .entry)) (now (links .entry)) ⌝ }
 {
-    let all = links_of(links);
     Slotframe {
-        handle: low8(numbers[10]),
-        size: low16(numbers[11]),
-        count: low8(numbers[12]),
-        links: all,
+        handle: low8(numbers, 10),
+        size: low16(numbers, 11),
+        count: low8(numbers, 12),
+        links: links_of(links),
     }
 }
 
-fn joining(numbers: [u64; 21], network: &[u8]) -> JoiningInformation
-    ensures { λ r. ⌜ r ≡ joiningFrom numbers (now (network .entry)) ⌝ }
+fn joining(numbers: &[u64], network: &[u8]) -> JoiningInformation
+    ensures { λ r. ⌜ r ≡ joiningFrom (now (numbers .entry)) (now (network .entry)) ⌝ }
 {
-    let id = network_id(network);
     JoiningInformation {
-        present: numbers[13] == 1,
-        router: numbers[14] == 1,
-        proxied: numbers[15] == 1,
-        proxy: low8(numbers[16]),
-        rank: low16(numbers[17]),
-        pan: low8(numbers[18]),
-        address: numbers[19],
-        length: low8(numbers[20]),
-        network: id,
+        present: is_one(numbers, 13),
+        router: is_one(numbers, 14),
+        proxied: is_one(numbers, 15),
+        proxy: low8(numbers, 16),
+        rank: low16(numbers, 17),
+        pan: low8(numbers, 18),
+        address: number(numbers, 19),
+        length: low8(numbers, 20),
+        network: network_id(network),
     }
 }
 
@@ -193,15 +189,14 @@ fn joining(numbers: [u64; 21], network: &[u8]) -> JoiningInformation
 pub fn read(numbers: &[u64], timings: &[u32], links: &[u16], network: &[u8]) -> Beacon
     ensures { λ r. ⌜ r ≡ beaconOf (now (numbers .entry)) (now (timings .entry)) (now (links .entry)) (now (network .entry)) ⌝ }
 {
-    let all = all_numbers(numbers);
     Beacon {
-        sequence: sequence(all[0], all[1]),
-        pan: low16(all[2]),
-        source: source(all[3], all[4]),
-        synchronization: synchronization(all),
-        timeslot: template(all, timings),
-        hopping: low8(all[9]),
-        slotframe: slotframe(all, links),
-        joining: joining(all, network),
+        sequence: sequence(numbers),
+        pan: low16(numbers, 2),
+        source: source(numbers),
+        synchronization: synchronization(numbers),
+        timeslot: template(numbers, timings),
+        hopping: low8(numbers, 9),
+        slotframe: slotframe(numbers, links),
+        joining: joining(numbers, network),
     }
 }

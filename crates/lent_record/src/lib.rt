@@ -1,1 +1,1 @@
-// The record that lent numbers are (specs/Record.antt); `lent_reading` reads it, `lent_links` and `lent_check` compare.
+// The record that lent numbers are (specs/Record.antt); `lent_reading` reads it and compares.

@@ -1,1 +1,3 @@
+pub mod SlotframeLaws
+pub mod JoiningLaws
 pub mod LimitLaws

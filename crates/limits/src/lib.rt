@@ -10,6 +10,9 @@ use beacon::SequenceNumber;
 use beacon::Synchronization;
 use beacon::TimeslotTemplate;
 
+pub mod joining_limits;
+pub mod slotframe_limits;
+
 // What a variant holds fits by its type.
 fn in_one_byte(n: u8) -> bool
     ensures { λ r. ⌜ r ≡ ltb n 256 ⌝ }
@@ -95,6 +98,6 @@ pub fn within_limits(b: Beacon) -> bool
         & (source_fits(source)
             & (synchronization_fits(b.synchronization)
                 & (template_fits(b.timeslot)
-                    & (slotframe_limits::slotframe_fits(b.slotframe)
-                        & joining_limits::joining_fits(b.joining)))))
+                    & (crate::slotframe_limits::slotframe_fits(b.slotframe)
+                        & crate::joining_limits::joining_fits(b.joining)))))
 }

@@ -1,1 +1,3 @@
+pub mod TemplateLaws
+pub mod SlotframeLaws
 pub mod GroupLaws

@@ -7,6 +7,9 @@ use beacon::Slotframe;
 use beacon::Synchronization;
 use beacon::TimeslotTemplate;
 
+pub mod slotframe;
+pub mod template;
+
 // The synchronization element as one number of eight bytes: descriptor, ASN, join metric.
 fn synchronization_number(synchronization: Synchronization) -> u64
     ensures { λ r. ⌜ leBytes 8 r ≡ synchronizationBytes synchronization ⌝ }
@@ -33,10 +36,10 @@ fn put_group_start(
         room,
         at,
         2,
-        group_sizes::group_size(template, count) as u64 + 34816,
+        sizes::group_sizes::group_size(template, count) as u64 + 34816,
     );
     put_octets::put_le(room, at + 2, 8, synchronization_number(synchronization));
-    template::put_template(room, at + 10, template);
+    crate::template::put_template(room, at + 10, template);
 }
 
 // The rest of the MLME group: hopping, whose descriptor and sequence ID are one number of three bytes, and the slotframe.
@@ -47,7 +50,7 @@ fn put_group_rest(room: &mut [u8], at: usize, hopping: u8, slotframe: Slotframe)
         return;
     }
     put_octets::put_le(room, at, 3, 51201 + hopping as u64 * 65536);
-    slotframe::put_slotframe(room, at + 3, slotframe);
+    crate::slotframe::put_slotframe(room, at + 3, slotframe);
 }
 
 // The MLME group.
@@ -64,7 +67,7 @@ pub fn put_group(
     if room.len() <= at {
         return;
     }
-    let size = group_sizes::template_size(template);
+    let size = sizes::group_sizes::template_size(template);
     put_group_start(room, at, synchronization, template, slotframe.count);
     put_group_rest(room, at + (12 + size), hopping, slotframe);
 }

@@ -4,6 +4,8 @@ ghost use Prim.Native.Nat.{_≤_};
 ghost use Rattle.network.specs.Network.{partOf, networkPart};
 use beacon::refusal::DONE;
 
+pub mod network_start;
+
 // The part from `skip` bytes behind a place to another place.
 fn part(s: &[u8], at: usize, skip: usize, to: usize) -> &[u8]
     requires { ⌜ skip ≤ 12 ⌝ }

@@ -7,6 +7,9 @@ ghost use mathlib.Core.Bool.{true};
 ghost use Rattle.metric.specs.Metric.{eligible, pathCost};
 ghost use Rattle.neighbours.specs.Calls.{choiceOf, chosen};
 
+pub mod best_place;
+pub mod held_parent;
+
 // The cost of an eligible place, which fits a rank.
 fn own_rank(p: Place) -> u16
     requires { ⌜ eligible p ≡ true ⌝ }
@@ -32,7 +35,7 @@ pub fn choose(q: Parent, h: Place, b: Place) -> Choice
 {
     if path_cost::eligible(b) {
         if path_cost::eligible(h) {
-            if 640 < increment::minus(path_cost::path_cost(h), path_cost::path_cost(b)) {
+            if 640 < path_cost::increment::minus(path_cost::path_cost(h), path_cost::path_cost(b)) {
                 return take(b);
             }
             return Choice {

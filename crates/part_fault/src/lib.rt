@@ -9,6 +9,8 @@ use beacon::refusal::OUT_OF_LIMITS;
 use beacon::refusal::SHAPE;
 use verdicts::Seen;
 
+pub mod slotframe_fault;
+
 fn twice(seen: usize) -> u8
     ensures { λ r. ⌜ r ≡ onceOnly seen ⌝ }
 {
@@ -93,7 +95,7 @@ pub fn part_fault(s: &[u8], kind: u64, from: usize, to: usize, seen: Seen) -> u8
         return hopping_fault(length, seen.hopping);
     }
     if kind == 27 {
-        return slotframe_fault::slotframe_fault(s, from, to, seen.slotframe);
+        return crate::slotframe_fault::slotframe_fault(s, from, to, seen.slotframe);
     }
     if kind == 258 {
         return joining_fault(length, seen.joining, get_octets::byte(s, from) / 64 % 2);

@@ -4,6 +4,9 @@ ghost use mathlib.Core.Path.{_≡_};
 ghost use Prim.Native.Nat.{_<_, _^_};
 ghost use Rattle.metric.specs.Metric.{eligible as isEligible, pathCost};
 
+pub mod increment;
+pub mod join_metric;
+
 // A rank or a counter at the width in which it is added and multiplied.
 fn wide(x: u16) -> u32
     ensures { λ r. ⌜ r ≡ x ⌝ }
@@ -16,7 +19,7 @@ pub fn path_cost(p: Place) -> u32
     ensures answer { λ r. ⌜ r ≡ pathCost p ⌝ }
     ensures bound { λ r. ⌜ r < 2 ^ 30 ⌝ }
 {
-    wide(p.rank) + increment::increment(p.attempts, p.acked)
+    wide(p.rank) + crate::increment::increment(p.attempts, p.acked)
 }
 
 // Whether a neighbour may be a parent.

@@ -5,6 +5,8 @@ ghost use Rattle.reading.specs.Claims.{NumbersTo8, OneIsTheLength, AcceptedMayB
 use beacon::refusal::DONE;
 pub use reading::ReadAnswer;
 
+pub mod decode_frame;
+
 // Reads a frame.
 pub fn read(s: &[u8]) -> ReadAnswer
     ensures answer { λ r. ⌜ r ≡ readFrame (now (s .entry)) ⌝ }
@@ -22,6 +24,6 @@ pub fn read(s: &[u8]) -> ReadAnswer
     let w = found.walk;
     ReadAnswer {
         number: DONE,
-        beacon: decode_frame::decode(s, w),
+        beacon: crate::decode_frame::decode(s, w),
     }
 }

@@ -1,16 +1,13 @@
 -- The laws of writing and reading back, in the shape in which the code meets them. Assumes nothing.
 use Prim.Native.Nat.{ℕ, _≤_}
 use mathlib.Core.Path.{_≡_, refl, sym, _∙_, ap}
-use mathlib.Core.Bool.{true}
 use mathlib.Core.List.{List, _++_}
 use native.Mathlib.Omega.{arith}
 use lib.ListN.{length, take, drop, length-append}
 use lib.Seq.{length-take-le, take-append-seam}
 use Rattle.octets.proofs.ChoiceLaws.{if-eq, if-ne}
-use Rattle.beacon.specs.Record.{blankBeacon}
 use Rattle.beacon.specs.declared.Beacon.{Beacon}
 use Rattle.frame.specs.Frame.{frameOf}
-use Rattle.frame.specs.Limits.{fits}
 use Rattle.reading.specs.Read.{readFrame}
 use Rattle.reading.specs.declared.ReadAnswer.{ReadAnswer}
 use Rattle.writing.specs.Write.{writtenNumber, writtenIn, roomAfter}
@@ -18,16 +15,16 @@ use Rattle.writing.specs.Claims.{WriteNumbers}
 use Rattle.writing.specs.declared.Written.{Written}
 use Rattle.read_back.specs.ReadBack.{Sized}
 use Rattle.read_back.proofs.ReadsBack.{frames-read-back}
-use Rattle.round_trip.specs.RoundTrip.{readAs, backFrom}
+use Rattle.round_trip.specs.RoundTrip.{readAs, refusedAs, backFrom}
 
 module _ (b : Beacon) (room : List ℕ) (w : Written) (is : w ≡ writtenIn b (length room)) where
   number-is : w .number ≡ writtenNumber b (length room)
   unfolding writtenIn
   number-is = ap (λ (x : Written). x .number) is
 
-  pub back-refused : (blank : Beacon) → (w .number ≡ 0 → ⊥) → blank ≡ blankBeacon → record { number = w .number; beacon = blank } ≡ backFrom b (length room)
+  pub back-refused : (r : ReadAnswer) → (w .number ≡ 0 → ⊥) → r ≡ refusedAs (w .number) → r ≡ backFrom b (length room)
   unfolding backFrom
-  back-refused blank bad e = rw (← number-is, e) (if-ne _ _ (w .number) 0 bad refl)
+  back-refused r bad e = rw (← number-is, e) (if-ne _ _ (w .number) 0 bad refl)
 
   module _ (good : w .number ≡ 0) where
     done-number : writtenNumber b (length room) ≡ 0
@@ -51,18 +48,13 @@ module _ (b : Beacon) (room : List ℕ) (w : Written) (is : w ≡ writtenIn b (l
       part-is : take (w .length) after ≡ frameOf b
       part-is = rw (room-is, length-is) (take-append-seam (frameOf b) (drop (length (frameOf b)) room))
 
-      -- what reading it needs
-      pub back-frame : WriteNumbers → (take (w .length) after ≡ frameOf b) × (fits b ≡ true) × (length (frameOf b) ≤ 125)
-      back-frame numbers = let can = numbers b (length room) .3 .0 done-number in (part-is, can .0, can .1)
-
-    pub back-done : (r : ReadAnswer) → r ≡ readAs b → r ≡ backFrom b (length room)
-    unfolding backFrom
-    back-done r e = if-eq _ _ (writtenNumber b (length room)) 0 done-number e
-
--- reading the frame of a record that can be written
-pub reads-as : (b : Beacon) (frame : List ℕ) (r : ReadAnswer) → frame ≡ frameOf b → fits b ≡ true → length (frameOf b) ≤ 125 → Sized b → r ≡ readFrame frame → r ≡ readAs b
-reads-as b frame r is within short sized e =
-    e ∙ (ap readFrame is ∙ frames-read-back b (record { sized = sized; within = within; short = short }))
+      -- what is read of it
+      pub back-read : WriteNumbers → Sized b → (r : ReadAnswer) → r ≡ readFrame (take (w .length) after) → r ≡ backFrom b (length room)
+      unfolding backFrom
+      back-read numbers sized r e =
+          let can = numbers b (length room) .3 .0 done-number in
+          let same : r ≡ readAs b = e ∙ (ap readFrame part-is ∙ frames-read-back b (record { sized = sized; within = can .0; short = can .1 })) in
+          if-eq _ _ (writtenNumber b (length room)) 0 done-number same
 
 pub sizes : (b : Beacon) → length (b .timeslot .timings) ≡ 12 → length (b .slotframe .links) ≡ 16 → length (b .joining .network) ≡ 16 → Sized b
 sizes b twelve sixteen bytes = record { timings = twelve; links = sixteen; network = bytes }

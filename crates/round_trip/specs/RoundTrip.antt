@@ -11,6 +11,10 @@ use Rattle.writing.specs.Write.{writtenNumber}
 abbrev pub readAs : Beacon → ReadAnswer
 readAs b = record { number = done; beacon = b }
 
+-- a refusal: its number with the blank record
+abbrev pub refusedAs : ℕ → ReadAnswer
+refusedAs number = record { number = number; beacon = blankBeacon }
+
 -- what comes back from a room of this length: the record itself if it is written, and else the number of the refusal with the blank record
 unfoldable pub backFrom : Beacon → ℕ → ReadAnswer
 backFrom b room = ifEq (writtenNumber b room) done (readAs b) (record { number = writtenNumber b room; beacon = blankBeacon })

@@ -1,13 +1,9 @@
 // Writing a record and reading back what was written: every record that can be written comes back as itself.
 ghost use mathlib.Core.Path.{_≡_};
-ghost use mathlib.Core.Bool.{true};
-ghost use Prim.Native.Nat.{_≤_};
 ghost use lib.ListN.{length};
-ghost use Rattle.frame.specs.Frame.{frameOf};
-ghost use Rattle.frame.specs.Limits.{fits};
 ghost use Rattle.read_back.specs.ReadBack.{Sized};
 ghost use Rattle.writing.specs.Write.{roomAfter};
-ghost use Rattle.round_trip.specs.RoundTrip.{readAs, backFrom};
+ghost use Rattle.round_trip.specs.RoundTrip.{refusedAs, backFrom};
 use beacon::Beacon;
 use beacon::refusal::DONE;
 use reader::ReadAnswer;
@@ -17,13 +13,14 @@ fn sized(b: Beacon)
     ensures { λ _. ⌜ Sized b ⌝ }
 {}
 
-// Reads a frame that was written of a record.
-fn read_written(frame: &[u8], b: Beacon) -> ReadAnswer
-    requires { ⌜ (now frame ≡ frameOf b) × (fits b ≡ true) × (length (frameOf b) ≤ 125) ⌝ }
-    ensures { λ r. ⌜ r ≡ readAs b ⌝ }
+// What comes back of a record that is not written.
+fn refused(number: u8) -> ReadAnswer
+    ensures { λ r. ⌜ r ≡ refusedAs number ⌝ }
 {
-    sized(b);
-    reader::read(frame)
+    ReadAnswer {
+        number,
+        beacon: beacon::blank(),
+    }
 }
 
 // Writes a record's frame at the start of a lent room, and reads it there.
@@ -33,11 +30,9 @@ pub fn write_and_read(room: &mut [u8], b: Beacon) -> ReadAnswer
 {
     let written = writer::write(room, b);
     if written.number != DONE {
-        return ReadAnswer {
-            number: written.number,
-            beacon: beacon::blank(),
-        };
+        return refused(written.number);
     }
+    sized(b);
     let length = written.length;
-    read_written(&room[..length], b)
+    reader::read(&room[..length])
 }

@@ -1,2 +1,4 @@
+pub mod LogLaws
+pub mod VisitLaws
 pub mod Snoc
 pub mod ReplayLaws

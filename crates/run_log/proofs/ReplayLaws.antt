@@ -17,10 +17,10 @@ use Rattle.neighbours.specs.declared.Table.{Table}
 use Rattle.neighbours.specs.Calls.{broken}
 use Rattle.stability.specs.Stability.{EntryExit, after, any, applies, changes, eachEligible, evaluations, firstCost, lastCost, noneRefused, rises}
 use Rattle.stability.proofs.Bound.{at-most-101-changes, none-refused, parents-do-not-flap}
-use Rattle.log.specs.Log.{Log, call, calls, callsTo, log, unfitLog}
-use Rattle.log.proofs.LogLaws.{run-ready}
-use Rattle.visit.specs.declared.Visit.{Visit}
-use Rattle.visit.specs.Visit.{visited}
+use Rattle.run_log.specs.Log.{Log, call, calls, callsTo, log, unfitLog}
+use Rattle.run_log.proofs.LogLaws.{run-ready}
+use Rattle.run_log.specs.declared.visit.Visit.{Visit}
+use Rattle.run_log.specs.Visit.{visited}
 use Rattle.run_log.specs.declared.Outcome.{Outcome}
 use Rattle.run_log.specs.Replay.{final, nothing, outcome, refusedReplay, replayed}
 use Rattle.run_log.specs.Tally.{OneMore, advanced, moved, noted, tally}

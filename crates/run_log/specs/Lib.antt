@@ -1,2 +1,4 @@
+pub mod Log
+pub mod Visit
 pub mod Replay
 pub mod Tally

@@ -10,7 +10,7 @@ use Rattle.neighbours.specs.declared.Table.{Table}
 use Rattle.neighbours.specs.Calls.{broken}
 use Rattle.stability.specs.Stability.{Call, after, applies, changes, evaluations, firstCost, lastCost, rises}
 use Rattle.run_log.specs.declared.Outcome.{Outcome}
-use Rattle.log.specs.Log.{Log, calls, unfitLog}
+use Rattle.run_log.specs.Log.{Log, calls, unfitLog}
 
 -- the table at the end of a list of calls
 unfoldable pub final : Table → List Call → Table

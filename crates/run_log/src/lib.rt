@@ -1,5 +1,5 @@
 // Runs a log of calls on a table, and counts what the claim that parents do not flap speaks of.
-// A log is four lent lists, one row for each call; crates/log says how a row is read.
+// A log is four lent lists, one row for each call; specs/Log.antt says how a row is read.
 use neighbours::Table;
 
 mod tally;
@@ -10,9 +10,14 @@ ghost use Prim.Native.Nat.{_≤_};
 ghost use lib.ListN.{length};
 ghost use Rattle.octets.specs.Choice.{ifLt};
 ghost use Rattle.beacon.specs.Refusal.{outOfLimits};
-ghost use Rattle.log.specs.Log.{calls, log as logOf};
+ghost use Rattle.run_log.specs.Log.{calls, log as logOf};
 ghost use Rattle.run_log.specs.Replay.{nothing, refusedReplay, replayed};
 ghost use Rattle.run_log.specs.Tally.{tally as tallyOf};
+
+pub mod log;
+pub mod log_call;
+pub mod replay;
+pub mod visit;
 
 // What a log comes to: the table at the end, how many evaluations there were, how many of them changed the parent, all
 // rises of the held parent's cost between one evaluation and the next, its cost on entry to the first and on exit from the
@@ -83,7 +88,7 @@ pub fn run_log(t: Table, kinds: &[u8], ids: &[u64], values: &[u16], flags: &[u8]
     if table_check::is_broken(t) {
         return refused(t);
     }
-    if log::is_unfit(kinds, ids, values, flags) {
+    if crate::log::is_unfit(kinds, ids, values, flags) {
         return refused(t);
     }
     let s = run(t, kinds, ids, values, flags);

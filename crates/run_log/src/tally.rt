@@ -1,15 +1,15 @@
 // What is counted after some calls, and one call more. Until the end, `applies` says that each evaluation so far had an
 // eligible parent on entry.
 use crate::Outcome;
-use increment::minus;
+use crate::visit::seen;
 use neighbours::Table;
-use visit::seen;
+use path_cost::increment::minus;
 ghost use mathlib.Core.Path.{_≡_};
 ghost use mathlib.Core.List.{[]};
 ghost use mathlib.Core.Bool.{_&&_};
 ghost use Prim.Native.Nat.{_+_, _-_, _<_, _≤_, _^_};
 ghost use Rattle.octets.specs.Choice.{ifEq};
-ghost use Rattle.log.specs.Log.{call};
+ghost use Rattle.run_log.specs.Log.{call};
 ghost use Rattle.run_log.specs.Tally.{OneMore, Room, advanced, moved as movedTo, noted as notedWith, tally as tallyOf};
 
 // Nothing counted yet.
@@ -95,7 +95,7 @@ pub(crate) fn advance(s: Outcome, kind: u8, id: u64, value: u16, flag: u8) -> Ou
     ensures bound { λ r. ⌜ OneMore s r ⌝ }
 {
     let t = s.table;
-    let u = log_call::apply(t, kind, id, value, flag);
+    let u = crate::log_call::apply(t, kind, id, value, flag);
     if kind < 3 {
         return moved(s, u);
     }

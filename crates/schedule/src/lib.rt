@@ -5,12 +5,15 @@ ghost use lib.ListN.{take};
 ghost use Rattle.octets.specs.Choice.{ifLt};
 ghost use Rattle.slot.specs.Slot.{decision};
 ghost use Rattle.slot.specs.Scan.{begun};
+use crate::conclusion::conclude;
+use crate::scan::step;
 use beacon::Link;
-use conclusion::conclude;
-use scan::step;
 use slot::Decision;
 use slot::Scan;
 use slot::Search;
+
+pub mod conclusion;
+pub mod scan;
 
 fn begin(asn: u64, size: u16) -> Scan
     ensures { λ r. ⌜ r ≡ begun asn size ⌝ }

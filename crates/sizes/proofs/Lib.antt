@@ -1,1 +1,3 @@
 pub mod SizeLaws
+pub mod LengthLaws
+pub mod GroupSizeLaws

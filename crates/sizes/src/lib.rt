@@ -7,6 +7,9 @@ use beacon::Address;
 use beacon::JoiningInformation;
 use beacon::SequenceNumber;
 
+pub mod group_sizes;
+pub mod lengths;
+
 // The bytes of a sequence number.
 pub fn sequence_size(sequence: SequenceNumber) -> usize
     ensures { λ r. ⌜ (r ≡ length (sequenceBytes sequence)) × (r ≤ 1) ⌝ }

@@ -1,12 +1,15 @@
 // Whether a table breaks a rule, which every call asks first. The rules are those of docs/RULES.md, Neighbours.
+use crate::place_limits::any_twice;
+use crate::place_limits::any_unfit;
 use metric::Place;
 use neighbours::Parent;
 use neighbours::Table;
-use place_limits::any_twice;
-use place_limits::any_unfit;
 use places::search::find;
 ghost use mathlib.Core.Path.{_≡_};
 ghost use Rattle.neighbours.specs.Calls.{broken, parentMissing};
+
+pub mod place_limits;
+pub mod table_store;
 
 // Whether a held parent is not among the places in use.
 fn is_parent_missing(q: Parent, ps: [Place; 32]) -> bool

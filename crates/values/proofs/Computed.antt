@@ -6,7 +6,7 @@ use lib.Dec.{T, eqb, eqb→eq}
 use Rattle.octets.specs.Choice.{ifOn, ifLt, ifEq}
 use Rattle.hopping.specs.Hopping.{channelOf}
 use Rattle.metric.specs.Metric.{increment, pathCost, eligible}
-use Rattle.join_metric.specs.JoinMetric.{joinMetric}
+use Rattle.path_cost.specs.JoinMetric.{joinMetric}
 use Rattle.places.specs.Places.{free, named, some, firstOf, nonzero, unfit, twice, nearer, better, bestOf}
 use Rattle.neighbours.specs.Changes.{attempted}
 use Rattle.neighbours.specs.Calls.{parentMissing, broken, heldPlace, chosen, evaluated}

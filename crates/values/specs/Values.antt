@@ -8,7 +8,7 @@ use lib.ListN.{replicate}
 use Rattle.beacon.specs.Refusal.{done, outOfLimits}
 use Rattle.hopping.specs.Hopping.{channelOf}
 use Rattle.metric.specs.Metric.{blank, increment, eligible}
-use Rattle.join_metric.specs.JoinMetric.{joinMetric}
+use Rattle.path_cost.specs.JoinMetric.{joinMetric}
 use Rattle.metric.specs.declared.Place.{Place}
 use Rattle.neighbours.specs.Changes.{attempted}
 use Rattle.neighbours.specs.Calls.{evaluated}

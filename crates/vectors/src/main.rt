@@ -1,54 +1,45 @@
-// Runs worked values through the library and prints one line for each; the file `stdout` beside src/ has what they must be.
+// Runs worked values through the library and prints a line of numbers for each, under a line that names them; the file `stdout` beside
+// src/ has what they must be.
+ghost use Prim.Native.Nat.{_≤_};
 use beacon::Link;
-use beacon::TimeslotTemplate;
 use metric::Place;
 use neighbours::Parent;
 use neighbours::Table;
 use slot::SlotAnswer;
 
-fn put(name: &[u8], n: u64) {
-    io::write_all(1, name);
+// Writes a number and the byte behind it.
+fn put(n: u64, end: u8) {
     io::print_decimal(1, n);
+    io::write_all(1, &[end]);
 }
 
 fn channel(asn: u64, offset: u16) {
-    put(b"asn ", asn);
-    put(b" offset ", offset as u64);
-    put(b" channel ", hopping::channel(asn, offset) as u64);
-    io::write_all(1, b"\n");
+    put(asn, b' ');
+    put(offset as u64, b' ');
+    put(hopping::channel(asn, offset) as u64, b'\n');
 }
 
-fn action(action: u8) {
-    match action {
-        0 => {
-            io::write_all(1, b" sleep");
-        }
-        1 => {
-            io::write_all(1, b" transmit");
-        }
-        _ => {
-            io::write_all(1, b" listen");
-        }
-    }
+fn channels() {
+    io::write_all(1, b"asn, offset: channel\n");
+    channel(11, 0);
+    channel(1099511627775, 0);
+    channel(1099511627775, 1);
 }
 
 // What a decision is asked for.
 fn asked(count: usize, size: u16, id: u8, asn: u64, waits: bool) {
-    put(b"links ", count as u64);
-    put(b" size ", size as u64);
-    put(b" sequence ", id as u64);
-    put(b" asn ", asn);
-    if waits {
-        io::write_all(1, b" waiting");
-    }
+    put(count as u64, b' ');
+    put(size as u64, b' ');
+    put(id as u64, b' ');
+    put(asn, b' ');
+    put(waits as u64, b' ');
 }
 
 fn answered(answer: SlotAnswer) {
-    put(b": number ", answer.number as u64);
-    action(answer.action);
-    put(b" place ", answer.place as u64);
-    put(b" channel ", answer.channel as u64);
-    io::write_all(1, b"\n");
+    put(answer.number as u64, b' ');
+    put(answer.action as u64, b' ');
+    put(answer.place as u64, b' ');
+    put(answer.channel as u64, b'\n');
 }
 
 // The decision on the first `count` links.
@@ -57,72 +48,59 @@ fn slot(links: [Link; 16], count: usize, size: u16, id: u8, asn: u64, waits: boo
     answered(slot::answer(schedule::decide_listed(links, count, size, id, asn, waits)));
 }
 
-// The schedule of RFC 8180: one shared cell in slot 0 of a slotframe, to transmit and receive.
-fn minimal() -> [Link; 16] {
-    let mut links = [beacon::blank_link(); 16];
-    links[0] = Link {
-        timeslot: 0,
-        offset: 0,
-        options: 15,
-    };
-    links
+fn link(timeslot: u16, offset: u16, options: u8) -> Link {
+    Link {
+        timeslot,
+        offset,
+        options,
+    }
+}
+
+// The schedule of RFC 8180: a shared cell in slot 0 of a slotframe, to transmit and receive.
+fn minimal(count: usize, size: u16, id: u8, asn: u64, waits: bool) {
+    slot([link(0, 0, 15); 16], count, size, id, asn, waits);
 }
 
 // Links in slots 3 and 5 that may only receive, transmit, or do both, on other channel offsets.
-fn mixed() -> [Link; 16] {
-    let mut links = [beacon::blank_link(); 16];
-    links[0] = Link {
-        timeslot: 5,
-        offset: 1,
-        options: 4,
-    };
-    links[1] = Link {
-        timeslot: 3,
-        offset: 2,
-        options: 2,
-    };
-    links[2] = Link {
-        timeslot: 3,
-        offset: 65535,
-        options: 1,
-    };
-    links[3] = Link {
-        timeslot: 3,
-        offset: 4,
-        options: 3,
-    };
+fn mixed_links() -> [Link; 16] {
+    let mut links = [link(3, 4, 3); 16];
+    links[0] = link(5, 1, 4);
+    links[1] = link(3, 2, 2);
+    links[2] = link(3, 65535, 1);
     links
 }
 
-fn channels() {
-    channel(11, 0);
-    channel(1099511627775, 0);
-    channel(1099511627775, 1);
+fn mixed(count: usize, size: u16, asn: u64, waits: bool) {
+    slot(mixed_links(), count, size, 0, asn, waits);
 }
 
 fn slots() {
-    slot(minimal(), 1, 11, 0, 256, true);
-    slot(minimal(), 1, 11, 0, 264, true);
-    slot(minimal(), 1, 11, 0, 264, false);
-    slot(minimal(), 1, 101, 0, 1099511627775, false);
-    slot(mixed(), 4, 7, 0, 24, true);
-    slot(mixed(), 4, 7, 0, 24, false);
-    slot(mixed(), 2, 7, 0, 24, true);
-    slot(mixed(), 4, 7, 0, 26, true);
+    io::write_all(
+        1,
+        b"links, size, sequence, asn, waiting: number, action (0 sleep, 1 transmit, 2 listen), place, channel\n",
+    );
+    minimal(1, 11, 0, 256, true);
+    minimal(1, 11, 0, 264, true);
+    minimal(1, 11, 0, 264, false);
+    minimal(1, 101, 0, 1099511627775, false);
+    mixed(4, 7, 24, true);
+    mixed(4, 7, 24, false);
+    mixed(2, 7, 24, true);
+    mixed(4, 7, 26, true);
 }
 
 fn limits() {
-    slot(minimal(), 1, 0, 0, 264, true);
-    slot(minimal(), 0, 11, 0, 264, true);
-    slot(minimal(), 16, 11, 0, 264, true);
-    slot(minimal(), 17, 11, 0, 264, true);
-    slot(mixed(), 4, 5, 0, 24, true);
-    slot(minimal(), 1, 11, 1, 264, true);
-    slot(minimal(), 1, 11, 0, 1099511627776, true);
+    minimal(1, 0, 0, 264, true);
+    minimal(0, 11, 0, 264, true);
+    minimal(16, 11, 0, 264, true);
+    minimal(17, 11, 0, 264, true);
+    mixed(4, 5, 24, true);
+    minimal(1, 11, 1, 264, true);
+    minimal(1, 11, 0, 1099511627776, true);
 }
 
-// The own rank of a child whose parent has some rank, and acknowledged 75 of 100 frames.
-fn child(rank: u16) -> u16 {
+// A neighbour of some rank that acknowledged 75 of 100 frames.
+fn neighbour(rank: u16) -> [Place; 32] {
     let mut places = [metric::blank(); 32];
     places[0] = Place {
         id: 1,
@@ -131,8 +109,13 @@ fn child(rank: u16) -> u16 {
         acked: 75,
         used: true,
     };
-    let evaluated = evaluate::evaluate(Table {
-        places,
+    places
+}
+
+// The own rank of a child that has it as its parent.
+fn child(rank: u16) -> u16 {
+    let evaluated = calls::evaluate::evaluate(Table {
+        places: neighbour(rank),
         parent: Parent::None,
     });
     evaluated.rank
@@ -140,18 +123,18 @@ fn child(rank: u16) -> u16 {
 
 // A tag at some rank: its join metric, and its child's own rank.
 fn hop(rank: u16) -> u16 {
-    let metric = join_metric::join_metric(rank);
-    put(b"rank ", rank as u64);
-    put(b" join metric number ", metric.number as u64);
-    put(b" metric ", metric.metric as u64);
+    let metric = path_cost::join_metric::join_metric(rank);
     let own = child(rank);
-    put(b" child's own rank ", own as u64);
-    io::write_all(1, b"\n");
+    put(rank as u64, b' ');
+    put(metric.number as u64, b' ');
+    put(metric.metric as u64, b' ');
+    put(own as u64, b'\n');
     own
 }
 
 // RFC 8180's example of five hops: each adds 512.
 fn hops() {
+    io::write_all(1, b"rank: join metric's number, metric, child's own rank\n");
     let first = hop(256);
     let second = hop(first);
     let third = hop(second);
@@ -164,67 +147,86 @@ fn wide(n: u32) -> u64 {
     n as u64
 }
 
-// Some of a record.
-fn record(asn: u64, metric: u8, size: u16, links: u8, template: TimeslotTemplate) {
-    put(b" asn ", asn);
-    put(b" metric ", metric as u64);
-    put(b" size ", size as u64);
-    put(b" links ", links as u64);
-    put(b" template ", template.id as u64);
-    put(b" timeslot length ", wide(template.timings[11]));
-    io::write_all(1, b"\n");
+// The length of a frame, its number and some of its record.
+fn record(
+    length: usize,
+    number: u8,
+    asn: u64,
+    metric: u8,
+    size: u16,
+    links: u8,
+    template: u8,
+    timings: [u32; 12],
+) {
+    put(length as u64, b' ');
+    put(number as u64, b' ');
+    put(asn, b' ');
+    put(metric as u64, b' ');
+    put(size as u64, b' ');
+    put(links as u64, b' ');
+    put(template as u64, b' ');
+    put(wide(timings[11]), b'\n');
 }
 
-// The number of a frame and, of an accepted one, some of its record.
-fn frame(name: &[u8], s: &[u8]) {
-    io::write_all(1, name);
+// Reads a frame.
+fn frame(s: &[u8]) {
     let answer = reader::read(s);
-    put(b": number ", answer.number as u64);
-    let beacon = answer.beacon;
-    let template = beacon.timeslot;
+    let timings = answer.beacon.timeslot.timings;
     record(
-        beacon.synchronization.asn,
-        beacon.synchronization.metric,
-        beacon.slotframe.size,
-        beacon.slotframe.count,
-        template,
+        s.len(),
+        answer.number,
+        answer.beacon.synchronization.asn,
+        answer.beacon.synchronization.metric,
+        answer.beacon.slotframe.size,
+        answer.beacon.slotframe.count,
+        answer.beacon.timeslot.id,
+        timings,
     );
 }
 
-// A beacon of 38 bytes, laid out field by field in docs/RULES.md, and cuts of it.
-fn frames() {
-    let minimal =
+// The first bytes of a beacon of 38, laid out field by field in docs/RULES.md.
+fn cut(length: usize)
+    requires { ⌜ length ≤ 38 ⌝ }
+{
+    let s =
         *b"\x40\xAB\x34\x12\xFF\xFF\x07\x00\x00\x3F\x1A\x88\x06\x1A\x00\x01\x00\x00\x00\x02\x01\x1C\x00\x01\xC8\x00\x0A\x1B\x01\x00\x0B\x00\x01\x00\x00\x00\x00\x0F";
-    frame(b"minimal", &minimal);
-    frame(b"minimal, last byte cut", &minimal[..37]);
-    frame(b"minimal, cut behind 0x7E", &minimal[..10]);
-    frame(b"minimal, cut behind the source", &minimal[..8]);
-    frame(b"minimal, source cut", &minimal[..7]);
-    frame(b"empty", &minimal[..0]);
+    frame(&s[..length]);
+}
+
+// The whole beacon, and cut by a byte, behind 0x7E, behind the source, in the source, and to nothing.
+fn frames() {
+    io::write_all(
+        1,
+        b"beacon of 38 bytes and cuts of it, zeros, RFC 8180 A.1, A.2 as printed, A.2 with a group of 50 bytes\nlength: number, asn, metric, size, links, template, timeslot length\n",
+    );
+    cut(38);
+    cut(37);
+    cut(10);
+    cut(8);
+    cut(7);
+    cut(0);
 }
 
 // The longest frame that may be read, and one byte more.
 fn lengths() {
-    let zeros = [0u8; 126];
-    frame(b"125 zeros", &zeros[..125]);
-    frame(b"126 zeros", &zeros);
+    frame(&[0u8; 125]);
+    frame(&[0u8; 126]);
 }
 
-// RFC 8180, appendix A.1 and A.2, each behind the fields of the beacon above: the RFC shows the elements alone, breaks A.2 off after the
-// length of its last element, which is completed as in A.1, and prints it with A.1's group length.
-fn published() {
+// RFC 8180, appendix A.1, behind the fields of the beacon above: the RFC shows the elements alone.
+fn published_minimal() {
     frame(
-        b"RFC 8180 A.1",
         b"\x40\xAB\x34\x12\xFF\xFF\x07\x00\x00\x3F\x1A\x88\x06\x1A\x05\x04\x03\x02\x01\x00\x01\x1C\x00\x01\xC8\x00\x0A\x1B\x01\x00\x65\x00\x01\x00\x00\x00\x00\x0F",
     );
-    frame(
-        b"RFC 8180 A.2 as printed",
-        b"\x40\xAB\x34\x12\xFF\xFF\x07\x00\x00\x3F\x1A\x88\x06\x1A\x05\x04\x03\x02\x01\x00\x19\x1C\x01\x8C\x0A\x80\x00\x6C\x0C\x90\x06\xB0\x04\xDC\x05\xE4\x0C\x58\x02\xC0\x00\x60\x09\xA0\x10\x98\x3A\x01\xC8\x00\x0A\x1B\x01\x00\x65\x00\x01\x00\x00\x00\x00\x0F",
-    );
-    frame(
-        b"RFC 8180 A.2, group of 50 bytes",
-        b"\x40\xAB\x34\x12\xFF\xFF\x07\x00\x00\x3F\x32\x88\x06\x1A\x05\x04\x03\x02\x01\x00\x19\x1C\x01\x8C\x0A\x80\x00\x6C\x0C\x90\x06\xB0\x04\xDC\x05\xE4\x0C\x58\x02\xC0\x00\x60\x09\xA0\x10\x98\x3A\x01\xC8\x00\x0A\x1B\x01\x00\x65\x00\x01\x00\x00\x00\x00\x0F",
-    );
+}
+
+// RFC 8180, appendix A.2, with some group length: the RFC prints A.1's, 26, and the elements take 50. It breaks off after the length of
+// its last element, which is completed as in A.1.
+fn published_timings(group: u8) {
+    let mut s =
+        *b"\x40\xAB\x34\x12\xFF\xFF\x07\x00\x00\x3F\x1A\x88\x06\x1A\x05\x04\x03\x02\x01\x00\x19\x1C\x01\x8C\x0A\x80\x00\x6C\x0C\x90\x06\xB0\x04\xDC\x05\xE4\x0C\x58\x02\xC0\x00\x60\x09\xA0\x10\x98\x3A\x01\xC8\x00\x0A\x1B\x01\x00\x65\x00\x01\x00\x00\x00\x00\x0F";
+    s[10] = group;
+    frame(&s);
 }
 
 fn main() {
@@ -234,5 +236,7 @@ fn main() {
     hops();
     frames();
     lengths();
-    published();
+    published_minimal();
+    published_timings(26);
+    published_timings(50);
 }

@@ -1,5 +1,5 @@
 // The walk over a frame's elements. It notes where each known element lies, where the first fault is, and how many elements were
-// skipped; nothing is decoded. Definitions (specs/Walk.antt) and their laws; the crates of the two lists walk.
+// skipped; nothing is decoded. Definitions (specs/Walk.antt) and their laws; the crate `element_lists` walks.
 ghost use mathlib.Core.Path.{_≡_};
 ghost use Rattle.walk.specs.Walk.{bump};
 

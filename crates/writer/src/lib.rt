@@ -22,7 +22,7 @@ pub fn write(room: &mut [u8], b: Beacon) -> Written
             length: 0,
         };
     }
-    let length = lengths::frame_length(b);
+    let length = sizes::lengths::frame_length(b);
     if 125 < length {
         return Written {
             number: FRAME_TOO_LONG,

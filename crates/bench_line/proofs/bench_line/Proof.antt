@@ -1,6 +1,6 @@
 -- `bench_line::bench_line` meets its contract. Assumes nothing.
 use mathlib.Core.Path.{refl}
-use Rattle.line.proofs.LineLaws.{small-room, wide-room, lines}
+use Rattle.line.proofs.LineLaws.{small-room, wide-room, line-there, line-behind, line-counts, line-refused, line-accepted}
 use borrow.Author.Needs.{needs}
 use Rattle.bench_line.proofs.bench_line.Statement.{statement}
 use Rattle.bench_line.proofs.bench_line.Tie as tie
@@ -18,7 +18,9 @@ same-length : tie.Need-same-length
 same-length c = search needs
 
 returns-2 : tie.Need-returns-2
-returns-2 c = (λ wide. search (needs, lines), (λ small. wide-room _ _ small (search needs), (search (needs, lines), search (needs, lines))))
+returns-2 c =
+    let put = c .before .before .put-refused .ensures in
+    (λ wide. line-there _ _ _ _ (put .0) (put .1) wide _ (search (needs, line-refused)), (λ small. wide-room _ _ small (search needs), (line-behind _ _ _ _ (put .0) (put .1) (search needs), line-counts _ _ _ _ (put .0) (put .1) (search needs))))
 
 put-accepted-requires : tie.Need-put-accepted-requires
 put-accepted-requires c κs = search needs
@@ -27,7 +29,9 @@ same-length-2 : tie.Need-same-length-2
 same-length-2 c = search needs
 
 returns-3 : tie.Need-returns-3
-returns-3 c = (λ wide. search (needs, lines), (λ small. wide-room _ _ small (search needs), (search (needs, lines), search (needs, lines))))
+returns-3 c =
+    let put = c .before .before .put-accepted .ensures in
+    (λ wide. line-there _ _ _ _ (put .0) (put .1) wide _ (search (needs, line-accepted)), (λ small. wide-room _ _ small (search needs), (line-behind _ _ _ _ (put .0) (put .1) (search needs), line-counts _ _ _ _ (put .0) (put .1) (search needs))))
 
 pub bench-line-spec : {M : Type 1} → statement M
 bench-line-spec =

@@ -10,11 +10,8 @@ slice-aggregate-put-field c = search needs
 put-field-requires : tie.Need-put-field-requires
 put-field-requires c κs = search needs
 
-slice-aggregate-put-text : tie.Need-slice-aggregate-put-text
-slice-aggregate-put-text c = search needs
-
-put-text-requires : tie.Need-put-text-requires
-put-text-requires c κs = search needs
+put-newline-requires : tie.Need-put-newline-requires
+put-newline-requires c κs = search needs
 
 same-length : tie.Need-same-length
 same-length c = search needs
@@ -28,7 +25,6 @@ put-refused-spec =
     (tie.spec
     slice-aggregate-put-field
     put-field-requires
-    slice-aggregate-put-text
-    put-text-requires
+    put-newline-requires
     same-length
     returns)

@@ -1,66 +1,50 @@
 -- `lent_reading::joining` meets its contract. Assumes nothing.
-use Rattle.lent_record.proofs.ReadingLaws.{lending}
+use Rattle.lent_reading.proofs.ReadLaws.{reads}
 use borrow.Author.Needs.{needs}
 use Rattle.lent_reading.proofs.joining.Statement.{statement}
 use Rattle.lent_reading.proofs.joining.Tie as tie
 
-network-id-requires : tie.Need-network-id-requires
-network-id-requires c κs = search needs
+is-one-requires : tie.Need-is-one-requires
+is-one-requires c κs = search needs
 
-array-read-t7 : tie.Need-array-read-t7
-array-read-t7 c = search needs
+is-one-requires-2 : tie.Need-is-one-requires-2
+is-one-requires-2 c κs = search needs
 
-array-read-t11 : tie.Need-array-read-t11
-array-read-t11 c = search needs
-
-array-read-t15 : tie.Need-array-read-t15
-array-read-t15 c = search needs
-
-array-read-low8 : tie.Need-array-read-low8
-array-read-low8 c = search needs
+is-one-requires-3 : tie.Need-is-one-requires-3
+is-one-requires-3 c κs = search needs
 
 low8-requires : tie.Need-low8-requires
 low8-requires c κs = search needs
 
-array-read-low16 : tie.Need-array-read-low16
-array-read-low16 c = search needs
-
 low16-requires : tie.Need-low16-requires
 low16-requires c κs = search needs
-
-array-read-low8-2 : tie.Need-array-read-low8-2
-array-read-low8-2 c = search needs
 
 low8-requires-2 : tie.Need-low8-requires-2
 low8-requires-2 c κs = search needs
 
-array-read-t31 : tie.Need-array-read-t31
-array-read-t31 c = search needs
-
-array-read-low8-3 : tie.Need-array-read-low8-3
-array-read-low8-3 c = search needs
+number-requires : tie.Need-number-requires
+number-requires c κs = search needs
 
 low8-requires-3 : tie.Need-low8-requires-3
 low8-requires-3 c κs = search needs
 
+network-id-requires : tie.Need-network-id-requires
+network-id-requires c κs = search needs
+
 returns : tie.Need-returns
-returns c = search (needs, lending)
+returns c = search (needs, reads)
 
 pub joining-spec : {M : Type 1} → statement M
 joining-spec =
     tie.close
     (tie.spec
-    network-id-requires
-    array-read-t7
-    array-read-t11
-    array-read-t15
-    array-read-low8
+    is-one-requires
+    is-one-requires-2
+    is-one-requires-3
     low8-requires
-    array-read-low16
     low16-requires
-    array-read-low8-2
     low8-requires-2
-    array-read-t31
-    array-read-low8-3
+    number-requires
     low8-requires-3
+    network-id-requires
     returns)

@@ -4,12 +4,12 @@ use Rattle.limits.proofs.within_limits.Statement.{statement}
 use Rattle.limits.proofs.within_limits.Tie as tie
 use Rattle.limits.proofs.within_limits.Reads as reads
 use Rattle.limits.proofs.within_limits.Lts as lts
-use Rattle.joining_limits.proofs.joining_fits.Reads as joining-fits-reads
+use Rattle.limits.proofs.joining_limits.joining_fits.Reads as joining-fits-reads
 use Rattle.limits.proofs.sequence_fits.Reads as sequence-fits-reads
 use Rattle.limits.proofs.source_fits.Reads as source-fits-reads
 use Rattle.limits.proofs.synchronization_fits.Reads as synchronization-fits-reads
 use Rattle.limits.proofs.template_fits.Reads as template-fits-reads
-use Rattle.slotframe_limits.proofs.slotframe_fits.Reads as slotframe-fits-reads
+use Rattle.limits.proofs.slotframe_limits.slotframe_fits.Reads as slotframe-fits-reads
 
 -- src/lib.rt:94:5
 sequence-fits-requires : tie.Need-sequence-fits-requires

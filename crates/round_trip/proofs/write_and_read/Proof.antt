@@ -1,5 +1,5 @@
 -- `round_trip::write_and_read` meets its contract. Assumes nothing.
-use Rattle.round_trip.proofs.RoundTripLaws.{back-refused, back-fits, back-part, back-frame, back-done}
+use Rattle.round_trip.proofs.RoundTripLaws.{back-refused, back-fits, back-part, back-read}
 use borrow.Author.Needs.{needs}
 use Rattle.round_trip.proofs.write_and_read.Statement.{statement}
 use Rattle.round_trip.proofs.write_and_read.Tie as tie
@@ -7,8 +7,8 @@ use Rattle.round_trip.proofs.write_and_read.Tie as tie
 write-requires : tie.Need-write-requires
 write-requires c κs = search needs
 
-blank-requires : tie.Need-blank-requires
-blank-requires c κs = search needs
+refused-requires : tie.Need-refused-requires
+refused-requires c κs = search needs
 
 same-length : tie.Need-same-length
 same-length c = search needs
@@ -17,38 +17,44 @@ returns : tie.Need-returns
 returns c =
     let a = c .before .before .before .before .before .before .before .before .args in
     let written = c .before .before .before .before .before .write .ensures in
-    (back-refused (a .b) (a .room .now) _ (written .0) _ (search needs) (c .blank .ensures), written .1 .0)
+    (back-refused (a .b) (a .room .now) _ (written .0) _ (search needs) (c .refused .ensures), written .1 .0)
 
-slice-reshare-prefix-read-written : tie.Need-slice-reshare-prefix-read-written
-slice-reshare-prefix-read-written c = back-fits _ _ _ (c .before .before .before .before .write .ensures .0) (search needs) _ (c .before .before .before .before .write .ensures .1 .0)
+sized-requires : tie.Need-sized-requires
+sized-requires c κs = search needs
 
-slice-aggregate-read-written : tie.Need-slice-aggregate-read-written
-slice-aggregate-read-written c = back-part _ _ _ (c .before .before .before .before .before .write .ensures .0) (search needs) _ (c .before .before .before .before .before .write .ensures .1 .0)
-
-read-written-requires : tie.Need-read-written-requires
-read-written-requires c κs =
+slice-reshare-prefix-read : tie.Need-slice-reshare-prefix-read
+slice-reshare-prefix-read c =
     let written = c .before .before .before .before .before .write .ensures in
-    back-frame _ _ _ (written .0) (search needs) _ (written .1 .0) (written .1 .1)
+    back-fits _ _ _ (written .0) (search needs) _ (written .1 .0)
+
+slice-aggregate-read : tie.Need-slice-aggregate-read
+slice-aggregate-read c =
+    let written = c .before .before .before .before .before .before .write .ensures in
+    back-part _ _ _ (written .0) (search needs) _ (written .1 .0)
+
+read-requires : tie.Need-read-requires
+read-requires c κs = search needs
 
 same-length-2 : tie.Need-same-length-2
 same-length-2 c = search needs
 
 returns-2 : tie.Need-returns-2
 returns-2 c =
-    let a = c .before .before .before .before .before .before .before .before .before .args in
-    let written = c .before .before .before .before .before .before .write .ensures in
-    (back-done (a .b) (a .room .now) _ (written .0) (search needs) _ (c .read-written .ensures), written .1 .0)
+    let a = c .before .before .before .before .before .before .before .before .before .before .args in
+    let written = c .before .before .before .before .before .before .before .write .ensures in
+    (back-read (a .b) (a .room .now) _ (written .0) (search needs) _ (written .1 .0) (written .1 .1) (search needs) _ (c .read .ensures .0), written .1 .0)
 
 pub write-and-read-spec : {M : Type 1} → statement M
 write-and-read-spec =
     tie.close
     (tie.spec
     write-requires
-    blank-requires
+    refused-requires
     same-length
     returns
-    slice-reshare-prefix-read-written
-    slice-aggregate-read-written
-    read-written-requires
+    sized-requires
+    slice-reshare-prefix-read
+    slice-aggregate-read
+    read-requires
     same-length-2
     returns-2)

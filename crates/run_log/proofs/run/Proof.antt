@@ -2,7 +2,7 @@
 use Rattle.run_log.proofs.ReplayLaws.{tallyWays, runWays}
 use Prim.Native.Nat.{_-_, _*_, _^_, _≤_}
 use lib.ListN.{length}
-use Rattle.log.specs.Log.{log}
+use Rattle.run_log.specs.Log.{log}
 use Rattle.run_log.proofs.ReplayLaws.{Passed, passed-next}
 use native.Mathlib.Omega.{arith}
 use borrow.Author.Needs.{needs}

@@ -1,6 +1,6 @@
 -- `run_log::run_log` meets its contract. Assumes nothing.
 use Rattle.run_log.proofs.ReplayLaws.{tallyWays, runWays}
-use Rattle.log.proofs.LogLaws.{run-ready}
+use Rattle.run_log.proofs.LogLaws.{run-ready}
 use borrow.Author.Needs.{needs}
 use Rattle.run_log.proofs.run_log.Statement.{statement}
 use Rattle.run_log.proofs.run_log.Tie as tie

@@ -67,14 +67,14 @@ use Rattle.schedule.proofs.begin as begin
 use Rattle.schedule.proofs.begin.Symbol as begin-def
 use Rattle.schedule.proofs.begin.Symbol.{name as #schedule·begin}
 use Rattle.schedule.proofs.begin.Met as begin-thm
-use Rattle.scan.proofs.step as step
-use Rattle.scan.proofs.step.Symbol as step-def
-use Rattle.scan.proofs.step.Symbol.{name as #scan·step}
-use Rattle.scan.proofs.step.Met as step-thm
-use Rattle.conclusion.proofs.conclude as conclude
-use Rattle.conclusion.proofs.conclude.Symbol as conclude-def
-use Rattle.conclusion.proofs.conclude.Symbol.{name as #conclusion·conclude}
-use Rattle.conclusion.proofs.conclude.Met as conclude-thm
+use Rattle.schedule.proofs.scan.step as step
+use Rattle.schedule.proofs.scan.step.Symbol as step-def
+use Rattle.schedule.proofs.scan.step.Symbol.{name as #schedule·scan·step}
+use Rattle.schedule.proofs.scan.step.Met as step-thm
+use Rattle.schedule.proofs.conclusion.conclude as conclude
+use Rattle.schedule.proofs.conclusion.conclude.Symbol as conclude-def
+use Rattle.schedule.proofs.conclusion.conclude.Symbol.{name as #schedule·conclusion·conclude}
+use Rattle.schedule.proofs.conclusion.conclude.Met as conclude-thm
 use Rattle.slot.proofs.Calling.{result-known}
 use Rattle.schedule.proofs.decide.Key.{name as #schedule·decide}
 use Rattle.schedule.proofs.decide as decide
@@ -198,7 +198,7 @@ module _ {M : Type 1} (𝓤 : URA M) (H : Heap 𝓤) (A : Atoms 𝓤) (W : Given
   Nearer-wf : WellFounded Nearer
   Nearer-wf = InvImage·wf (λ (t : St). t .i) (Nat·lt-wfRel .wf)
 
-  module _ (𝓣 : Tables 𝓤 H) (known-begin : Triple 𝓤 (𝓣 .C #schedule·begin) (Begin 𝓤 H A mem run)) (known-step : Triple 𝓤 (𝓣 .C #scan·step) (Step 𝓤 H A mem run)) (known-conclude : Triple 𝓤 (𝓣 .C #conclusion·conclude) (Conclude 𝓤 H A mem run)) where
+  module _ (𝓣 : Tables 𝓤 H) (known-begin : Triple 𝓤 (𝓣 .C #schedule·begin) (Begin 𝓤 H A mem run)) (known-step : Triple 𝓤 (𝓣 .C #schedule·scan·step) (Step 𝓤 H A mem run)) (known-conclude : Triple 𝓤 (𝓣 .C #schedule·conclusion·conclude) (Conclude 𝓤 H A mem run)) where
     abbrev C : Calls 𝓤 H
     C = 𝓣 .C
 
@@ -304,7 +304,7 @@ module _ {M : Type 1} (𝓤 : URA M) (H : Heap 𝓤) (A : Atoms 𝓤) (W : Given
         around l₀ l₁ l₂ l₃ l₄ l₅ l₆ l₇ l₈ l₉ l₁₀ l₁₁ l₁₂ (record { i = n; seen = s; value = u; low = le-refl n; is = is; so-far = e ∙ begin-at-end links (begun asn size) }))))))))))))))))
 
 module _ {M : Type 1} (𝓤 : URA M) (H : Heap 𝓤) (A : Atoms 𝓤) (W : Given 𝓤 H A) (mem : Memory → SProp 𝓤) (run : Routine → Fun 𝓤) (𝓣 : Tables 𝓤 H)
-    (known-begin : Triple 𝓤 (𝓣 .C #schedule·begin) (Begin 𝓤 H A mem run)) (known-step : Triple 𝓤 (𝓣 .C #scan·step) (Step 𝓤 H A mem run)) (known-conclude : Triple 𝓤 (𝓣 .C #conclusion·conclude) (Conclude 𝓤 H A mem run)) where
+    (known-begin : Triple 𝓤 (𝓣 .C #schedule·begin) (Begin 𝓤 H A mem run)) (known-step : Triple 𝓤 (𝓣 .C #schedule·scan·step) (Step 𝓤 H A mem run)) (known-conclude : Triple 𝓤 (𝓣 .C #schedule·conclusion·conclude) (Conclude 𝓤 H A mem run)) where
   decide-walks : Walks 𝓤 H A decide.ended stayed (WpFn 𝓤 H (𝓣 .C) (𝓣 .Λ) code.function) (decide.clauses 𝓤 H A mem run)
   decide-walks = walked 𝓤 H A decide.ended stayed (decide.clauses 𝓤 H A mem run) (WpFn 𝓤 H (𝓣 .C) (𝓣 .Λ) code.function)
       (λ κs. (slice-vals, (uint-vals w16, (uint-vals w8, (uint-vals w64, (bool-vals, tt)))))) (λ κs. (shr-slice-tells (named 0) (κs .0) L.the-row, (uint-tells w16, (uint-tells w8, (uint-tells w64, (bool-tells, tt))))))
@@ -325,5 +325,5 @@ decide-spec 𝓤 H 𝓜 𝓖 𝓡 =
     (tables 𝓤 H 𝓜 𝓡 code.env .C) (tables 𝓤 H 𝓜 𝓡 code.env .Λ) #schedule·decide code.function (code.unfolded 𝓤 H 𝓜 𝓡)
     (decide-meets 𝓤 H (𝓖 .A) (givenOf 𝓤 H 𝓜 𝓖) (𝓜 .mem) (𝓡 .run) (tablesOf 𝓤 H 𝓜 (tables 𝓤 H 𝓜 𝓡 code.env))
     (cited 𝓤 H (Begin 𝓤 H (𝓖 .A) (𝓜 .mem) (𝓡 .run)) 𝓜 𝓡 code.env #schedule·begin begin-def.routine code.calls-schedule·begin (begin-thm.met 𝓤 H 𝓜 𝓖 𝓡))
-    (cited 𝓤 H (Step 𝓤 H (𝓖 .A) (𝓜 .mem) (𝓡 .run)) 𝓜 𝓡 code.env #scan·step step-def.routine code.calls-scan·step (step-thm.met 𝓤 H 𝓜 𝓖 𝓡))
-    (cited 𝓤 H (Conclude 𝓤 H (𝓖 .A) (𝓜 .mem) (𝓡 .run)) 𝓜 𝓡 code.env #conclusion·conclude conclude-def.routine code.calls-conclusion·conclude (conclude-thm.met 𝓤 H 𝓜 𝓖 𝓡)))
+    (cited 𝓤 H (Step 𝓤 H (𝓖 .A) (𝓜 .mem) (𝓡 .run)) 𝓜 𝓡 code.env #schedule·scan·step step-def.routine code.calls-schedule·scan·step (step-thm.met 𝓤 H 𝓜 𝓖 𝓡))
+    (cited 𝓤 H (Conclude 𝓤 H (𝓖 .A) (𝓜 .mem) (𝓡 .run)) 𝓜 𝓡 code.env #schedule·conclusion·conclude conclude-def.routine code.calls-schedule·conclusion·conclude (conclude-thm.met 𝓤 H 𝓜 𝓖 𝓡)))

@@ -1,0 +1,14 @@
+-- `element_lists::payload_list::skip_one` meets its contract. Assumes nothing.
+use Rattle.walk.proofs.WalkLaws.{notes}
+use borrow.Author.Needs.{needs}
+use Rattle.element_lists.proofs.payload_list.skip_one.Statement.{statement}
+use Rattle.element_lists.proofs.payload_list.skip_one.Tie as tie
+
+one-more-requires : tie.Need-one-more-requires
+one-more-requires c κs = search needs
+
+returns : tie.Need-returns
+returns c = search (needs, notes)
+
+pub skip-one-spec : {M : Type 1} → statement M
+skip-one-spec = tie.close (tie.spec one-more-requires returns)

@@ -1,0 +1,144 @@
+// The walk over the payload list. The reader of the list and the reader of a group call each other: at a group the first goes into it,
+// and at the group's end the second goes back to the list.
+ghost use mathlib.Core.Path.{_≡_};
+ghost use Prim.Native.Nat.{_≤_};
+ghost use Rattle.walk.specs.Walk.{seenOf, taken, stopped, skipOne, partTaken, OuterIs, GroupIs, payloadList};
+use beacon::refusal::DONE;
+use elements::InnerStep;
+use elements::OuterStep;
+use verdicts::Seen;
+use walk::Walk;
+
+fn seen_of(w: Walk) -> Seen
+    ensures { λ r. ⌜ r ≡ seenOf w ⌝ }
+{
+    Seen {
+        synchronization: w.synchronization,
+        timeslot: w.timeslot,
+        hopping: w.hopping,
+        slotframe: w.slotframe,
+        joining: w.joining,
+    }
+}
+
+fn skip_one(mut w: Walk) -> Walk
+    ensures { λ r. ⌜ r ≡ skipOne w ⌝ }
+{
+    w.skipped = walk::one_more(w.skipped);
+    w
+}
+
+fn stop(mut w: Walk, fault: u8, at: usize) -> Walk
+    ensures { λ r. ⌜ r ≡ stopped w fault at ⌝ }
+{
+    w.fault = fault as usize;
+    w.faulty = at;
+    w
+}
+
+// Notes an element without a fault; one of an unknown kind is skipped.
+fn take(mut w: Walk, kind: u64, from: usize, to: usize) -> Walk
+    ensures { λ r. ⌜ r ≡ taken w kind from to ⌝ }
+{
+    if kind == 26 {
+        w.synchronization = from;
+        return w;
+    }
+    if kind == 28 {
+        w.timeslot = from;
+        w.timeslotend = to;
+        return w;
+    }
+    if kind == 137 {
+        w.hopping = from;
+        return w;
+    }
+    if kind == 27 {
+        w.slotframe = from;
+        return w;
+    }
+    if kind == 258 {
+        w.joining = from;
+        w.joiningend = to;
+        return w;
+    }
+    skip_one(w)
+}
+
+// An element of some kind whose descriptor stands at `at`: it is noted, or the walk stops there.
+fn part(s: &[u8], w: Walk, kind: u64, from: usize, to: usize, at: usize) -> Walk
+    ensures { λ r. ⌜ r ≡ partTaken (now (s .entry)) w kind from to at ⌝ }
+{
+    let fault = part_fault::part_fault(s, kind, from, to, seen_of(w));
+    if fault == DONE {
+        return take(w, kind, from, to);
+    }
+    stop(w, fault, at)
+}
+
+// The payload list from a place on.
+fn outer(s: &[u8], at: usize, end: usize, mut w: Walk) -> Walk
+    requires { ⌜ at ≤ end ⌝ }
+    ensures { λ r. ⌜ OuterIs (now (s .entry)) at end w r ⌝ }
+{
+    let mut i = at;
+    loop {
+        match element_steps::outer_step::outer_step(s, i, end) {
+            OuterStep::End => {
+                return w;
+            }
+            OuterStep::Group(from, to) => {
+                return group(s, from, to, end, w);
+            }
+            OuterStep::Joining(from, to) => {
+                w = part(s, w, 258, from, to, i);
+                if w.fault != 0 {
+                    return w;
+                }
+                i = to;
+            }
+            OuterStep::Skip(to) => {
+                w = skip_one(w);
+                i = to;
+            }
+            OuterStep::Fault(number) => {
+                return stop(w, number, i);
+            }
+        }
+    }
+}
+
+// An MLME group from a place of it to its end, and behind it the payload list.
+fn group(s: &[u8], at: usize, to: usize, end: usize, mut w: Walk) -> Walk
+    requires { ⌜ (at ≤ to) × (to ≤ end) ⌝ }
+    ensures { λ r. ⌜ GroupIs (now (s .entry)) at to end w r ⌝ }
+{
+    let mut i = at;
+    loop {
+        match element_steps::inner_step::inner_step(s, i, to) {
+            InnerStep::Back => {
+                return outer(s, to, end, w);
+            }
+            InnerStep::Part(kind, from, next) => {
+                w = part(s, w, kind, from, next, i);
+                if w.fault != 0 {
+                    return w;
+                }
+                i = next;
+            }
+            InnerStep::Fault(number) => {
+                return stop(w, number, i);
+            }
+        }
+    }
+}
+
+// The payload list from a place to an end, with what was noted before.
+pub fn payload_list(s: &[u8], at: usize, end: usize, w: Walk) -> Walk
+    ensures { λ r. ⌜ r ≡ payloadList (now (s .entry)) at end w ⌝ }
+{
+    if end < at {
+        return w;
+    }
+    outer(s, at, end, w)
+}

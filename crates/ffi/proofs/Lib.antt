@@ -1,0 +1,4 @@
+pub mod JoinLaws
+pub mod EvaluateLaws
+pub mod ReplayLaws
+pub mod FlatLaws

@@ -1,0 +1,28 @@
+-- `ffi::table::tesolvagna_replay` meets its contract. Assumes nothing.
+use Rattle.ffi.proofs.ReplayLaws.{replayWays}
+use borrow.Author.Needs.{needs}
+use Rattle.ffi.proofs.table.tesolvagna_replay.Statement.{statement}
+use Rattle.ffi.proofs.table.tesolvagna_replay.Tie as tie
+
+open-requires : tie.Need-open-requires
+open-requires c κs = search needs
+
+replay-requires : tie.Need-replay-requires
+replay-requires c κs = search needs
+
+store-requires : tie.Need-store-requires
+store-requires c κs = search needs
+
+counted-requires : tie.Need-counted-requires
+counted-requires c κs = search needs
+
+same-length : tie.Need-same-length
+same-length c = search needs
+
+returns : tie.Need-returns
+returns c = search (needs, replayWays)
+
+pub tesolvagna-replay-spec : {M : Type 1} → statement M
+tesolvagna-replay-spec =
+    tie.close
+    (tie.spec open-requires replay-requires store-requires counted-requires same-length returns)

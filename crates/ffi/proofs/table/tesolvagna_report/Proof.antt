@@ -1,0 +1,24 @@
+-- `ffi::table::tesolvagna_report` meets its contract. Assumes nothing.
+use Rattle.lent_table.proofs.LentLaws.{lentWays}
+use borrow.Author.Needs.{needs}
+use Rattle.ffi.proofs.table.tesolvagna_report.Statement.{statement}
+use Rattle.ffi.proofs.table.tesolvagna_report.Tie as tie
+
+open-requires : tie.Need-open-requires
+open-requires c κs = search needs
+
+report-requires : tie.Need-report-requires
+report-requires c κs = search needs
+
+store-requires : tie.Need-store-requires
+store-requires c κs = search needs
+
+same-length : tie.Need-same-length
+same-length c = search needs
+
+returns : tie.Need-returns
+returns c = search (needs, lentWays)
+
+pub tesolvagna-report-spec : {M : Type 1} → statement M
+tesolvagna-report-spec =
+    tie.close (tie.spec open-requires report-requires store-requires same-length returns)

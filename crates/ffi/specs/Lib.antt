@@ -1,0 +1,4 @@
+pub mod Metric
+pub mod Evaluate
+pub mod Replay
+pub mod Flat

@@ -1,0 +1,20 @@
+-- `schedule::conclusion::act` meets its contract. Assumes nothing.
+use Rattle.slot.proofs.SlotLaws.{slots}
+use borrow.Author.Needs.{needs}
+use Rattle.schedule.proofs.conclusion.act.Statement.{statement}
+use Rattle.schedule.proofs.conclusion.act.Tie as tie
+
+listen-requires : tie.Need-listen-requires
+listen-requires c κs = search needs
+
+transmit-requires : tie.Need-transmit-requires
+transmit-requires c κs = search needs
+
+returns : tie.Need-returns
+returns c = search (needs, slots)
+
+returns-2 : tie.Need-returns-2
+returns-2 c = search (needs, slots)
+
+pub act-spec : {M : Type 1} → statement M
+act-spec = tie.close (tie.spec listen-requires transmit-requires returns returns-2)

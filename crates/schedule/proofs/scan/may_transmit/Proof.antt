@@ -1,0 +1,11 @@
+-- `schedule::scan::may_transmit` meets its contract. Assumes nothing.
+use Rattle.slot.proofs.SlotLaws.{slots}
+use borrow.Author.Needs.{needs}
+use Rattle.schedule.proofs.scan.may_transmit.Statement.{statement}
+use Rattle.schedule.proofs.scan.may_transmit.Tie as tie
+
+returns : tie.Need-returns
+returns c = search (needs, slots)
+
+pub may-transmit-spec : {M : Type 1} → statement M
+may-transmit-spec = tie.close (tie.spec returns)

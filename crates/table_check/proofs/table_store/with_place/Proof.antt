@@ -1,0 +1,20 @@
+-- `table_check::table_store::with_place` meets its contract. Assumes nothing.
+use Rattle.neighbours.proofs.CallLaws.{storeWays}
+use borrow.Author.Needs.{needs}
+use Rattle.table_check.proofs.table_store.with_place.Statement.{statement}
+use Rattle.table_check.proofs.table_store.with_place.Tie as tie
+
+mul-p : tie.Need-mul-p
+mul-p c = search needs
+
+element-set-from-p : tie.Need-element-set-from-p
+element-set-from-p c = search needs
+
+returns : tie.Need-returns
+returns c = search needs
+
+returns-2 : tie.Need-returns-2
+returns-2 c = search (needs, storeWays)
+
+pub with-place-spec : {M : Type 1} → statement M
+with-place-spec = tie.close (tie.spec mul-p element-set-from-p returns returns-2)
