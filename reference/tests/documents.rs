@@ -151,6 +151,44 @@ fn wrong_programs_are_claimed() {
     expect_none("edits that CLAIMS.md does not name", wrong, names.len(), 100);
 }
 
+/// The function whose signature or contract stands at this place of a file, if one does.
+fn contract_at(code: &str, at: usize) -> Option<&str> {
+    let start = code[..at].rfind("fn ")? + "fn ".len();
+    let end = start + code[start..].find("\n{")?;
+    (at < end).then(|| code[start..end].split('(').next().unwrap_or_default())
+}
+
+/// Whether a crate calls a function of its own.
+fn is_called(of: &str, name: &str) -> bool {
+    let part = |letter: char| letter.is_alphanumeric() || letter == '_';
+    let call = format!("{name}(");
+    files(&root().join("crates").join(of).join("src"), "rt").iter().any(|path| {
+        let code = read(path);
+        let mut before = code.match_indices(&call).map(|(at, _)| &code[..at]);
+        before.any(|before| !before.ends_with("fn ") && !before.ends_with(part))
+    })
+}
+
+/// Among wrong programs that are tried together, a changed contract would reach the proofs of its function's callers.
+#[test]
+fn changed_contracts_have_no_callers() {
+    let (mut wrong, mut tried) = (Vec::new(), 0);
+    for (of, path) in crate_files("must-fail", "edit") {
+        let text = read(&path);
+        let mut code = String::new();
+        for line in text.lines().filter(|_| text.contains("\nwrong: ")) {
+            if let Some(file) = line.strip_prefix("file: ") {
+                code = read(&root().join("crates").join(&of).join(file));
+            } else if let Some(at) = line.strip_prefix("old: ").and_then(|old| code.find(old)) {
+                tried += 1;
+                let reaches = contract_at(&code, at).filter(|name| is_called(&of, name));
+                wrong.extend(reaches.map(|name| format!("{of}::{name}")));
+            }
+        }
+    }
+    expect_none("contracts that are changed together with other functions, and called", wrong, tried, 100);
+}
+
 /// Two wrong programs for each public function: a row of the table has at least twice as many edits as functions.
 #[test]
 fn functions_have_two_wrong_programs() {

@@ -15,9 +15,9 @@ ghost use Rattle.neighbours.specs.Changes.{newcomer as newPlace, withRank};
 fn with_rank(p: Place, rank: u16) -> Place
     ensures { λ r. ⌜ r ≡ withRank rank p ⌝ }
 {
-    let mut q = p;
-    q.rank = rank;
-    q
+    let mut changed = p;
+    changed.rank = rank;
+    changed
 }
 
 // A neighbour that is added.

@@ -4,18 +4,26 @@ use neighbours::Evaluation;
 use neighbours::Table;
 use table_check::table_store::with_parent;
 ghost use mathlib.Core.Path.{_≡_};
-ghost use Rattle.neighbours.specs.Calls.{evaluated};
+ghost use Rattle.beacon.specs.Refusal.{outOfLimits};
+ghost use Rattle.neighbours.specs.Calls.{evaluated, evaluation};
+
+// The answer for a table that breaks a rule.
+fn refused(t: Table) -> Evaluation
+    ensures { λ r. ⌜ r ≡ evaluation outOfLimits t 65535 ⌝ }
+{
+    Evaluation {
+        number: OUT_OF_LIMITS,
+        table: t,
+        rank: 65535,
+    }
+}
 
 // Sets the held parent, and says the own rank. A table that breaks a rule is refused with 8.
 pub fn evaluate(t: Table) -> Evaluation
     ensures { λ r. ⌜ r ≡ evaluated t ⌝ }
 {
     if table_check::is_broken(t) {
-        return Evaluation {
-            number: OUT_OF_LIMITS,
-            table: t,
-            rank: 65535,
-        };
+        return refused(t);
     }
     let ps = t.places;
     let q = t.parent;

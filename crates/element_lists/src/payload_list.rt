@@ -21,46 +21,57 @@ fn seen_of(w: Walk) -> Seen
     }
 }
 
-fn skip_one(mut w: Walk) -> Walk
+fn skip_one(w: Walk) -> Walk
     ensures { λ r. ⌜ r ≡ skipOne w ⌝ }
 {
-    w.skipped = walk::one_more(w.skipped);
-    w
+    Walk {
+        skipped: walk::one_more(w.skipped),
+        ..w
+    }
 }
 
-fn stop(mut w: Walk, fault: u8, at: usize) -> Walk
+fn stop(w: Walk, fault: u8, at: usize) -> Walk
     ensures { λ r. ⌜ r ≡ stopped w fault at ⌝ }
 {
-    w.fault = fault as usize;
-    w.faulty = at;
-    w
+    Walk {
+        fault: fault as usize,
+        faulty: at,
+        ..w
+    }
 }
 
 // Notes an element without a fault; one of an unknown kind is skipped.
-fn take(mut w: Walk, kind: u64, from: usize, to: usize) -> Walk
+fn take(w: Walk, kind: u64, from: usize, to: usize) -> Walk
     ensures { λ r. ⌜ r ≡ taken w kind from to ⌝ }
 {
     if kind == 26 {
-        w.synchronization = from;
-        return w;
+        return Walk {
+            synchronization: from,
+            ..w
+        };
     }
     if kind == 28 {
-        w.timeslot = from;
-        w.timeslotend = to;
-        return w;
+        return Walk {
+            timeslot: from,
+            timeslotend: to,
+            ..w
+        };
     }
     if kind == 137 {
-        w.hopping = from;
-        return w;
+        return Walk { hopping: from, ..w };
     }
     if kind == 27 {
-        w.slotframe = from;
-        return w;
+        return Walk {
+            slotframe: from,
+            ..w
+        };
     }
     if kind == 258 {
-        w.joining = from;
-        w.joiningend = to;
-        return w;
+        return Walk {
+            joining: from,
+            joiningend: to,
+            ..w
+        };
     }
     skip_one(w)
 }
@@ -77,57 +88,59 @@ fn part(s: &[u8], w: Walk, kind: u64, from: usize, to: usize, at: usize) -> Walk
 }
 
 // The payload list from a place on.
-fn outer(s: &[u8], at: usize, end: usize, mut w: Walk) -> Walk
+fn outer(s: &[u8], at: usize, end: usize, w: Walk) -> Walk
     requires { ⌜ at ≤ end ⌝ }
     ensures { λ r. ⌜ OuterIs (now (s .entry)) at end w r ⌝ }
 {
     let mut i = at;
+    let mut q = w;
     loop {
         match element_steps::outer_step::outer_step(s, i, end) {
             OuterStep::End => {
-                return w;
+                return q;
             }
             OuterStep::Group(from, to) => {
-                return group(s, from, to, end, w);
+                return group(s, from, to, end, q);
             }
             OuterStep::Joining(from, to) => {
-                w = part(s, w, 258, from, to, i);
-                if w.fault != 0 {
-                    return w;
+                q = part(s, q, 258, from, to, i);
+                if q.fault != 0 {
+                    return q;
                 }
                 i = to;
             }
             OuterStep::Skip(to) => {
-                w = skip_one(w);
+                q = skip_one(q);
                 i = to;
             }
             OuterStep::Fault(number) => {
-                return stop(w, number, i);
+                return stop(q, number, i);
             }
         }
     }
 }
 
 // An MLME group from a place of it to its end, and behind it the payload list.
-fn group(s: &[u8], at: usize, to: usize, end: usize, mut w: Walk) -> Walk
+fn group(s: &[u8], at: usize, to: usize, end: usize, w: Walk) -> Walk
     requires { ⌜ (at ≤ to) × (to ≤ end) ⌝ }
     ensures { λ r. ⌜ GroupIs (now (s .entry)) at to end w r ⌝ }
 {
     let mut i = at;
+    let mut q = w;
     loop {
         match element_steps::inner_step::inner_step(s, i, to) {
             InnerStep::Back => {
-                return outer(s, to, end, w);
+                return outer(s, to, end, q);
             }
             InnerStep::Part(kind, from, next) => {
-                w = part(s, w, kind, from, next, i);
-                if w.fault != 0 {
-                    return w;
+                q = part(s, q, kind, from, next, i);
+                if q.fault != 0 {
+                    return q;
                 }
                 i = next;
             }
             InnerStep::Fault(number) => {
-                return stop(w, number, i);
+                return stop(q, number, i);
             }
         }
     }

@@ -231,9 +231,9 @@ pub choice-is : (p : Place) (j : ℕ) → j ≡ pathCost p → choice (Held (p .
 choice-is p j f = ap (choice (Held (p .id))) f
 
 module _ (t : Table) (x : Bool) (e : x ≡ broken t) where
-  pub evaluated-broken : x ≡ true → evaluation 8 t 65535 ≡ evaluated t
+  pub evaluated-broken : (a : Evaluation) → x ≡ true → a ≡ evaluation 8 t 65535 → a ≡ evaluated t
   unfolding evaluated
-  evaluated-broken u = let b : broken t ≡ true = sym e ∙ u in search choices
+  evaluated-broken a u f = let b : broken t ≡ true = sym e ∙ u in f ∙ search choices
 
   pub evaluated-done : (h b : Place) (c : Choice) (v : Table) → x ≡ false → h ≡ held t → b ≡ best (t .places) → c ≡ chosen (t .parent) h b → v ≡ withParent t (c .parent) → evaluation 0 v (c .rank) ≡ evaluated t
   unfolding evaluated

@@ -1,11 +1,23 @@
 // Reading a beacon: its number and its record.
 ghost use mathlib.Core.Path.{_≡_};
+ghost use Rattle.decode.specs.Decode.{decoded};
 ghost use Rattle.reading.specs.Read.{readFrame};
 ghost use Rattle.reading.specs.Claims.{NumbersTo8, OneIsTheLength, AcceptedMayBeDecidedOn};
 use beacon::refusal::DONE;
 pub use reading::ReadAnswer;
+use walk::Walk;
 
 pub mod decode_frame;
+
+// The answer to a frame in which nothing is wrong.
+fn accepted(s: &[u8], w: Walk) -> ReadAnswer
+    ensures { λ r. ⌜ r ≡ record { number = 0; beacon = decoded (now (s .entry)) w } ⌝ }
+{
+    ReadAnswer {
+        number: DONE,
+        beacon: crate::decode_frame::decode(s, w),
+    }
+}
 
 // Reads a frame.
 pub fn read(s: &[u8]) -> ReadAnswer
@@ -22,8 +34,5 @@ pub fn read(s: &[u8]) -> ReadAnswer
         };
     }
     let w = found.walk;
-    ReadAnswer {
-        number: DONE,
-        beacon: crate::decode_frame::decode(s, w),
-    }
+    accepted(s, w)
 }

@@ -2,6 +2,7 @@
 use Rattle.reading.proofs.Claimed.{numbers-to-8, one-is-the-length}
 use Rattle.reading.proofs.Accepted.{accepted-may-be-decided-on}
 use Rattle.reading.proofs.ReadLaws.{read-refused, read-done}
+use mathlib.Core.Path.{refl, _∙_}
 use borrow.Author.Needs.{needs}
 use Rattle.reader.proofs.read.Statement.{statement}
 use Rattle.reader.proofs.read.Tie as tie
@@ -15,11 +16,11 @@ blank-requires c κs = search needs
 returns : tie.Need-returns
 returns c = (read-refused _ _ (c .before .before .before .examine .ensures .0) _ (search needs) (c .blank .ensures), (numbers-to-8, (one-is-the-length, accepted-may-be-decided-on)))
 
-decode-requires : tie.Need-decode-requires
-decode-requires c κs = search needs
+accepted-requires : tie.Need-accepted-requires
+accepted-requires c κs = search needs
 
 returns-2 : tie.Need-returns-2
-returns-2 c = (read-done _ _ (c .before .before .before .before .examine .ensures .0) _ (search needs) (c .decode .ensures), (numbers-to-8, (one-is-the-length, accepted-may-be-decided-on)))
+returns-2 c = (c .accepted .ensures ∙ read-done _ _ (c .before .before .before .before .examine .ensures .0) _ (search needs) refl, (numbers-to-8, (one-is-the-length, accepted-may-be-decided-on)))
 
 pub read-spec : {M : Type 1} → statement M
-read-spec = tie.close (tie.spec examine-requires blank-requires returns decode-requires returns-2)
+read-spec = tie.close (tie.spec examine-requires blank-requires returns accepted-requires returns-2)

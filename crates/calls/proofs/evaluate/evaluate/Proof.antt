@@ -7,6 +7,9 @@ use Rattle.calls.proofs.evaluate.evaluate.Tie as tie
 is-broken-requires : tie.Need-is-broken-requires
 is-broken-requires c κs = search needs
 
+refused-requires : tie.Need-refused-requires
+refused-requires c κs = search needs
+
 returns : tie.Need-returns
 returns c = search (needs, evaluateWays)
 
@@ -30,6 +33,7 @@ evaluate-spec =
     tie.close
     (tie.spec
     is-broken-requires
+    refused-requires
     returns
     held-requires
     best-requires

@@ -42,10 +42,10 @@ abbrev group-calls : ℕ → group-lts.Claims
 group-calls t = (inner-step-reads.Asked, inner-step-reads.Learnt, outer-below t, outer.Post, part-reads.Asked, part-reads.Learnt, stop-reads.Asked, stop-reads.Learnt)
 
 abbrev group-Inv-loop : group-lts.InvT-loop
-group-Inv-loop s at to end w₀ i₀ w i = GroupLeads s at to end w₀ i w
+group-Inv-loop s at to end i₀ q₀ i q = GroupLeads s at to end q₀ i q
 
 abbrev group-μ-loop : group-lts.MeasureT-loop
-group-μ-loop s at to end w₀ i₀ w i = to - i
+group-μ-loop s at to end i₀ q₀ i q = to - i
 
 group-loop-holds : (t : ℕ) → group-lts.Need-loop-holds (group-calls t) (group-at t) group.Post group-Inv-loop group-μ-loop
 group-loop-holds t c = search (needs, lists)
@@ -91,10 +91,10 @@ abbrev outer-calls : ℕ → outer-lts.Claims
 outer-calls t = (outer-step-reads.Asked, outer-step-reads.Learnt, group-below t, group.Post, part-reads.Asked, part-reads.Learnt, skip-one-reads.Asked, skip-one-reads.Learnt, stop-reads.Asked, stop-reads.Learnt)
 
 abbrev outer-Inv-loop : outer-lts.InvT-loop
-outer-Inv-loop s at end w₀ i₀ w i = OuterLeads s at end w₀ i w
+outer-Inv-loop s at end i₀ q₀ i q = OuterLeads s at end q₀ i q
 
 abbrev outer-μ-loop : outer-lts.MeasureT-loop
-outer-μ-loop s at end w₀ i₀ w i = end - i
+outer-μ-loop s at end i₀ q₀ i q = end - i
 
 outer-loop-holds : (t : ℕ) → outer-lts.Need-loop-holds (outer-calls t) (outer-at t) outer.Post outer-Inv-loop outer-μ-loop
 outer-loop-holds t c = search (needs, lists)
