@@ -1,4 +1,4 @@
--- A call on lent numbers: what is opened, called and stored is what the call says of the numbers (`lentWays`). Numbers that
+-- A call on lent numbers: what is opened, called and stored is what the call says of the numbers. Numbers that
 -- are no table are opened as a table that every call refuses, and so stay as they are. Assumes nothing.
 use Prim.Native.Nat.{ℕ}
 use mathlib.Core.Path.{_≡_, refl, sym, ap, _∙_}
@@ -117,5 +117,3 @@ unfolding ifEq
 empty-kept xs ys t e h = h ∙ ap (laidOver xs) e
 
 pub ruleset emptyWays = (empty-kept, not-laid, choices)
-
-pub ruleset lentWays = (forget-number, forget-kept, advertise-number, advertise-kept, report-number, report-kept)

@@ -1,5 +1,6 @@
 -- `ffi::table::tesolvagna_evaluate` meets its contract. Assumes nothing.
-use Rattle.ffi.proofs.EvaluateLaws.{evaluateWays}
+use Rattle.ffi.proofs.EvaluateLaws.{evaluate-answer}
+use Rattle.lent_table.proofs.LentLaws.{evaluate-kept}
 use borrow.Author.Needs.{needs}
 use Rattle.ffi.proofs.table.tesolvagna_evaluate.Statement.{statement}
 use Rattle.ffi.proofs.table.tesolvagna_evaluate.Tie as tie
@@ -20,7 +21,11 @@ same-length : tie.Need-same-length
 same-length c = search needs
 
 returns : tie.Need-returns
-returns c = search (needs, evaluateWays)
+returns c =
+    let table = c .before .before .before .before .before .before .before .open .ensures in
+    let answer = c .before .before .before .before .before .before .evaluate .ensures in
+    let stored = c .before .before .before .store .ensures in
+    (evaluate-answer _ _ _ _ _ table answer (stored .0) (c .wide .ensures), evaluate-kept _ _ _ table answer _ (stored .1))
 
 pub tesolvagna-evaluate-spec : {M : Type 1} → statement M
 tesolvagna-evaluate-spec =

@@ -1,5 +1,5 @@
 -- `ffi::table::tesolvagna_replay` meets its contract. Assumes nothing.
-use Rattle.ffi.proofs.ReplayLaws.{replayWays}
+use Rattle.ffi.proofs.ReplayLaws.{replay-answer, replay-kept}
 use borrow.Author.Needs.{needs}
 use Rattle.ffi.proofs.table.tesolvagna_replay.Statement.{statement}
 use Rattle.ffi.proofs.table.tesolvagna_replay.Tie as tie
@@ -20,7 +20,10 @@ same-length : tie.Need-same-length
 same-length c = search needs
 
 returns : tie.Need-returns
-returns c = search (needs, replayWays)
+returns c =
+    let table = c .before .before .before .before .before .before .before .open .ensures in
+    let outcome = c .before .before .before .before .before .before .replay .ensures .0 in
+    (replay-answer _ _ _ _ table outcome _ (c .counted .ensures), replay-kept _ _ _ _ table outcome _ (c .before .before .before .store .ensures .1))
 
 pub tesolvagna-replay-spec : {M : Type 1} → statement M
 tesolvagna-replay-spec =

@@ -1,5 +1,5 @@
 -- `ffi::table::tesolvagna_report` meets its contract. Assumes nothing.
-use Rattle.lent_table.proofs.LentLaws.{lentWays}
+use Rattle.lent_table.proofs.LentLaws.{report-number, report-kept}
 use borrow.Author.Needs.{needs}
 use Rattle.ffi.proofs.table.tesolvagna_report.Statement.{statement}
 use Rattle.ffi.proofs.table.tesolvagna_report.Tie as tie
@@ -17,7 +17,11 @@ same-length : tie.Need-same-length
 same-length c = search needs
 
 returns : tie.Need-returns
-returns c = search (needs, lentWays)
+returns c =
+    let table = c .before .before .before .before .before .before .open .ensures in
+    let answer = c .before .before .before .before .before .report .ensures in
+    let stored = c .before .before .store .ensures in
+    (report-number _ _ _ table _ _ _ _ answer (stored .0), report-kept _ _ _ table _ _ _ _ answer (stored .1))
 
 pub tesolvagna-report-spec : {M : Type 1} → statement M
 tesolvagna-report-spec =
