@@ -7,6 +7,6 @@ fn main() {
     let mut frame = [0u8; 126];
     let length = io::read_full(STDIN_FILENO, &mut frame);
     let mut room = [0u8; 128];
-    let end = bench_line::bench_line(&frame[..length], &mut room);
+    let end = text_line::bench_line(&frame[..length], &mut room);
     io::write_all(STDOUT_FILENO, &room[..end]);
 }

@@ -1,10 +1,16 @@
-// What definitions are written with: choices, lists that are counted out, and numbers in bytes (specs/), with their laws (proofs/).
-ghost use Rattle.octets.specs.Number.{leAt, beAt, leBytes, beBytes, ReadsBack, ReadsBackInARoom};
+// Numbers in bytes, of any width and in either byte order: read from a lent slice, and put into one.
+ghost use mathlib.Core.Path.{_≡_};
+ghost use Prim.Native.Nat.{_-_};
 
-// Cites each theorem, so that the gate fails if the proof of one goes.
-pub fn theorems()
-    ensures le_reads_back { λ _. ⌜ ReadsBack leBytes leAt ⌝ }
-    ensures be_reads_back { λ _. ⌜ ReadsBack beBytes beAt ⌝ }
-    ensures le_in_a_room { λ _. ⌜ ReadsBackInARoom leBytes leAt ⌝ }
-    ensures be_in_a_room { λ _. ⌜ ReadsBackInARoom beBytes beAt ⌝ }
-{}
+pub mod get;
+pub mod put;
+
+// How many bytes lie from a place to another, and 0 if the second comes before the first.
+pub fn span(from: usize, to: usize) -> usize
+    ensures { λ r. ⌜ r ≡ to - from ⌝ }
+{
+    if to < from {
+        return 0;
+    }
+    to - from
+}

@@ -1,11 +1,11 @@
 // Runs worked values through the library and prints a line of numbers for each, under a line that names them; the file `stdout` beside
 // src/ has what they must be.
 ghost use Prim.Native.Nat.{_≤_};
-use beacon::Link;
-use metric::Place;
-use neighbours::Parent;
-use neighbours::Table;
-use slot::SlotAnswer;
+use eb_record_spec::Link;
+use nbr_metric_spec::Place;
+use nbr_table_spec::Parent;
+use nbr_table_spec::Table;
+use slot_spec::SlotAnswer;
 
 // Writes a number and the byte behind it.
 fn put(n: u64, end: u8) {
@@ -45,7 +45,14 @@ fn answered(answer: SlotAnswer) {
 // The decision on the first `count` links.
 fn slot(links: [Link; 16], count: usize, size: u16, id: u8, asn: u64, waits: bool) {
     asked(count, size, id, asn, waits);
-    answered(slot::answer(schedule::decide_listed(links, count, size, id, asn, waits)));
+    answered(slot_decision::slots::answer(slot_decision::decide_listed(
+        links,
+        count,
+        size,
+        id,
+        asn,
+        waits,
+    )));
 }
 
 fn link(timeslot: u16, offset: u16, options: u8) -> Link {
@@ -101,7 +108,7 @@ fn limits() {
 
 // A neighbour of some rank that acknowledged 75 of 100 frames.
 fn neighbour(rank: u16) -> [Place; 32] {
-    let mut places = [metric::blank(); 32];
+    let mut places = [nbr_metric_spec::blank(); 32];
     places[0] = Place {
         id: 1,
         rank,
@@ -114,7 +121,7 @@ fn neighbour(rank: u16) -> [Place; 32] {
 
 // The own rank of a child that has it as its parent.
 fn child(rank: u16) -> u16 {
-    let evaluated = calls::evaluate::evaluate(Table {
+    let evaluated = nbr_calls::evaluate::evaluate(Table {
         places: neighbour(rank),
         parent: Parent::None,
     });
@@ -123,7 +130,7 @@ fn child(rank: u16) -> u16 {
 
 // A tag at some rank: its join metric, and its child's own rank.
 fn hop(rank: u16) -> u16 {
-    let metric = path_cost::join_metric::join_metric(rank);
+    let metric = nbr_metric::join_metric::join_metric(rank);
     let own = child(rank);
     put(rank as u64, b' ');
     put(metric.number as u64, b' ');
@@ -170,7 +177,7 @@ fn record(
 
 // Reads a frame.
 fn frame(s: &[u8]) {
-    let answer = reader::read(s);
+    let answer = eb_read::read(s);
     let timings = answer.beacon.timeslot.timings;
     record(
         s.len(),

@@ -1,0 +1,29 @@
+// The slot decision and the channel rule for C.
+ghost use mathlib.Core.Path.{_≡_};
+ghost use Rattle.hopping.specs.Hopping.{channelOf};
+ghost use Rattle.slot_spec.specs.Slot.{decision};
+ghost use Rattle.slot_spec.specs.Answer.{answerOf};
+use eb_record_spec::Link;
+use slot_spec::SlotAnswer;
+
+// The slot decision over a lent list of links.
+#[no_mangle]
+pub extern "C" fn tesolvagna_decide(
+    links: &[Link],
+    size: u16,
+    id: u8,
+    asn: u64,
+    waits: bool,
+) -> SlotAnswer
+    ensures { λ r. ⌜ r ≡ answerOf (decision (now (links .entry)) size id asn waits) ⌝ }
+{
+    slot_decision::slots::answer(slot_decision::decide(links, size, id, asn, waits))
+}
+
+// The channel of a link with this channel offset at this ASN.
+#[no_mangle]
+pub extern "C" fn tesolvagna_channel(asn: u64, offset: u16) -> u8
+    ensures { λ r. ⌜ r ≡ channelOf asn offset ⌝ }
+{
+    hopping::channel(asn, offset)
+}

@@ -1,0 +1,39 @@
+-- `eb_examine::examine` meets its contract. Assumes nothing.
+use Rattle.eb_read_spec.proofs.Accepted.{accepted-lies-inside}
+use Rattle.eb_read_spec.proofs.ReadLaws.{reading}
+use borrow.Author.Needs.{needs}
+use Rattle.eb_examine.proofs.examine.Statement.{statement}
+use Rattle.eb_examine.proofs.examine.Tie as tie
+
+opening-fault-requires : tie.Need-opening-fault-requires
+opening-fault-requires c κs = search needs
+
+blank-walk-requires : tie.Need-blank-walk-requires
+blank-walk-requires c κs = search needs
+
+returns : tie.Need-returns
+returns c = (search (needs, reading), accepted-lies-inside)
+
+elements-place-requires : tie.Need-elements-place-requires
+elements-place-requires c κs = search needs
+
+elements-walk-requires : tie.Need-elements-walk-requires
+elements-walk-requires c κs = search needs
+
+walk-number-requires : tie.Need-walk-number-requires
+walk-number-requires c κs = search (needs, reading)
+
+returns-2 : tie.Need-returns-2
+returns-2 c = (search (needs, reading), accepted-lies-inside)
+
+pub examine-spec : {M : Type 1} → statement M
+examine-spec =
+    tie.close
+    (tie.spec
+    opening-fault-requires
+    blank-walk-requires
+    returns
+    elements-place-requires
+    elements-walk-requires
+    walk-number-requires
+    returns-2)

@@ -1,0 +1,24 @@
+-- `eb_frame::before_joining` meets its contract. Assumes nothing.
+use Rattle.eb_frame.proofs.FramingLaws.{framings}
+use borrow.Author.Needs.{needs}
+use Rattle.eb_frame.proofs.before_joining.Statement.{statement}
+use Rattle.eb_frame.proofs.before_joining.Tie as tie
+
+at-most-16-requires : tie.Need-at-most-16-requires
+at-most-16-requires c κs = search needs
+
+cast-group-size : tie.Need-cast-group-size
+cast-group-size c = search needs
+
+group-size-requires : tie.Need-group-size-requires
+group-size-requires c κs = search needs
+
+add-result : tie.Need-add-result
+add-result c = search needs
+
+returns : tie.Need-returns
+returns c = search (needs, framings)
+
+pub before-joining-spec : {M : Type 1} → statement M
+before-joining-spec =
+    tie.close (tie.spec at-most-16-requires cast-group-size group-size-requires add-result returns)

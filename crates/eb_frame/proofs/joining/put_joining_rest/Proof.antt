@@ -1,0 +1,46 @@
+-- `eb_frame::joining::put_joining_rest` meets its contract. Assumes nothing.
+use Rattle.eb_frame.proofs.JoiningLaws.{joinings}
+use borrow.Author.Needs.{needs}
+use Rattle.eb_frame.proofs.joining.put_joining_rest.Statement.{statement}
+use Rattle.eb_frame.proofs.joining.put_joining_rest.Tie as tie
+
+returns : tie.Need-returns
+returns c = search (needs, joinings)
+
+address-width-requires : tie.Need-address-width-requires
+address-width-requires c κs = search needs
+
+put-be-requires : tie.Need-put-be-requires
+put-be-requires c κs = search needs
+
+cast-put-network : tie.Need-cast-put-network
+cast-put-network c = search needs
+
+add-put-network : tie.Need-add-put-network
+add-put-network c = search needs
+
+at-most-16-requires : tie.Need-at-most-16-requires
+at-most-16-requires c κs = search needs
+
+put-network-requires : tie.Need-put-network-requires
+put-network-requires c κs = search needs
+
+same-length : tie.Need-same-length
+same-length c = search needs
+
+returns-2 : tie.Need-returns-2
+returns-2 c = search (needs, joinings)
+
+pub put-joining-rest-spec : {M : Type 1} → statement M
+put-joining-rest-spec =
+    tie.close
+    (tie.spec
+    returns
+    address-width-requires
+    put-be-requires
+    cast-put-network
+    add-put-network
+    at-most-16-requires
+    put-network-requires
+    same-length
+    returns-2)

@@ -1,0 +1,54 @@
+-- `eb_frame::joining::put_joining_start` meets its contract. Assumes nothing.
+use Rattle.eb_frame.proofs.JoiningLaws.{joinings}
+use borrow.Author.Needs.{needs}
+use Rattle.eb_frame.proofs.joining.put_joining_start.Statement.{statement}
+use Rattle.eb_frame.proofs.joining.put_joining_start.Tie as tie
+
+returns : tie.Need-returns
+returns c = search (needs, joinings)
+
+joining-size-requires : tie.Need-joining-size-requires
+joining-size-requires c κs = search needs
+
+add-put-le : tie.Need-add-put-le
+add-put-le c = search needs
+
+mul-put-le : tie.Need-mul-put-le
+mul-put-le c = search needs
+
+add-put-le-2 : tie.Need-add-put-le-2
+add-put-le-2 c = search needs
+
+put-le-requires : tie.Need-put-le-requires
+put-le-requires c κs = search needs
+
+add-put-be : tie.Need-add-put-be
+add-put-be c = search needs
+
+joining-word-requires : tie.Need-joining-word-requires
+joining-word-requires c κs = search needs
+
+put-be-requires : tie.Need-put-be-requires
+put-be-requires c κs = search needs
+
+same-length : tie.Need-same-length
+same-length c = search needs
+
+returns-2 : tie.Need-returns-2
+returns-2 c = search (needs, joinings)
+
+pub put-joining-start-spec : {M : Type 1} → statement M
+put-joining-start-spec =
+    tie.close
+    (tie.spec
+    returns
+    joining-size-requires
+    add-put-le
+    mul-put-le
+    add-put-le-2
+    put-le-requires
+    add-put-be
+    joining-word-requires
+    put-be-requires
+    same-length
+    returns-2)

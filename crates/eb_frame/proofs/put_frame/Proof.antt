@@ -1,0 +1,42 @@
+-- `eb_frame::put_frame` meets its contract. Assumes nothing.
+use Rattle.eb_frame.proofs.FramingLaws.{framings}
+use borrow.Author.Needs.{needs}
+use Rattle.eb_frame.proofs.put_frame.Statement.{statement}
+use Rattle.eb_frame.proofs.put_frame.Tie as tie
+
+sequence-size-requires : tie.Need-sequence-size-requires
+sequence-size-requires c κs = search needs
+
+add-at : tie.Need-add-at
+add-at c = search needs
+
+source-size-requires : tie.Need-source-size-requires
+source-size-requires c κs = search needs
+
+add-at-2 : tie.Need-add-at-2
+add-at-2 c = search needs
+
+put-opening-requires : tie.Need-put-opening-requires
+put-opening-requires c κs = search needs
+
+put-elements-requires : tie.Need-put-elements-requires
+put-elements-requires c κs = search needs
+
+same-length : tie.Need-same-length
+same-length c = search needs
+
+returns : tie.Need-returns
+returns c = search (needs, framings)
+
+pub put-frame-spec : {M : Type 1} → statement M
+put-frame-spec =
+    tie.close
+    (tie.spec
+    sequence-size-requires
+    add-at
+    source-size-requires
+    add-at-2
+    put-opening-requires
+    put-elements-requires
+    same-length
+    returns)

@@ -1,0 +1,108 @@
+// Joining information of a frame, put into a lent room from a place on; past the end of the room nothing is stored.
+ghost use mathlib.Core.Path.{_≡_};
+ghost use mathlib.Core.List.{[], _++_};
+ghost use Prim.Native.Nat.{_*_, _≤_, _<_};
+ghost use lib.ListN.{take};
+ghost use Rattle.octets_spec.specs.Choice.{ifOn};
+ghost use Rattle.octets_spec.specs.Number.{leBytes, beBytes, stored};
+ghost use Rattle.eb_frame_spec.specs.Frame.{groupDescriptor, flag, joiningWord, joiningSize, joiningBytes};
+use eb_record_spec::JoiningInformation;
+
+fn flag_of(b: bool) -> u64
+    ensures { λ r. ⌜ (r ≡ flag b) × (r ≤ 1) ⌝ }
+{
+    if b {
+        return 1;
+    }
+    0
+}
+
+// The flags and priorities of joining information.
+fn joining_word(joining: JoiningInformation) -> u64
+    ensures { λ r. ⌜ r ≡ joiningWord joining ⌝ }
+{
+    flag_of(joining.router) * 2147483648
+        + flag_of(joining.proxied) * 1073741824
+        + joining.proxy as u64 * 1048576
+        + joining.rank as u64 * 256
+        + joining.pan as u64
+}
+
+fn wide(x: u8) -> u64
+    ensures { λ r. ⌜ (r ≡ x) × (r < 256) ⌝ }
+{
+    x as u64
+}
+
+// The first bytes of a network ID.
+fn put_network(room: &mut [u8], at: usize, network: [u8; 16], used: usize)
+    requires { ⌜ used ≤ 16 ⌝ }
+    ensures { λ _. ⌜ now (room .exit) ≡ stored (now (room .entry)) at (take used network) ⌝ }
+{
+    if room.len() <= at {
+        return;
+    }
+    let mut i = 0;
+    while i < used {
+        octets::put::put_le(room, at + i, 1, wide(network[i]));
+        i += 1;
+    }
+}
+
+// The bytes of the address: eight if P is set, else none.
+fn address_width(proxied: bool) -> u8
+    ensures { λ r. ⌜ (r ≡ 8 * flag proxied) × (r ≤ 8) ⌝ }
+{
+    if proxied {
+        return 8;
+    }
+    0
+}
+
+// The rest of joining information: the address if P is set, the network ID.
+fn put_joining_rest(room: &mut [u8], at: usize, joining: JoiningInformation)
+    ensures { λ _. ⌜ now (room .exit) ≡ stored (now (room .entry)) at (ifOn (joining .proxied) (beBytes 8 (joining .address)) [] ++ take (joining .length) (joining .network)) ⌝ }
+{
+    if room.len() <= at {
+        return;
+    }
+    let network = joining.network;
+    let width = address_width(joining.proxied);
+    octets::put::put_be(room, at, width, joining.address);
+    put_network(
+        room,
+        at + width as usize,
+        network,
+        eb_sizes::at_most_16(joining.length),
+    );
+}
+
+// The start of joining information: descriptor and subtype as one number of three bytes, then the flags and priorities.
+fn put_joining_start(room: &mut [u8], at: usize, joining: JoiningInformation)
+    ensures { λ _. ⌜ now (room .exit) ≡ stored (now (room .entry)) at (groupDescriptor 5 (joiningSize joining) ++ (leBytes 1 2 ++ beBytes 4 (joiningWord joining))) ⌝ }
+{
+    if room.len() <= at {
+        return;
+    }
+    octets::put::put_le(
+        room,
+        at,
+        3,
+        eb_sizes::joining_size(joining) as u64 + 43008 + 2 * 65536,
+    );
+    octets::put::put_be(room, at + 3, 4, joining_word(joining));
+}
+
+// Joining information, if it is there.
+pub fn put_joining(room: &mut [u8], at: usize, joining: JoiningInformation)
+    ensures { λ _. ⌜ now (room .exit) ≡ stored (now (room .entry)) at (joiningBytes joining) ⌝ }
+{
+    if room.len() <= at {
+        return;
+    }
+    if joining.present {
+        put_joining_start(room, at, joining);
+        put_joining_rest(room, at + 7, joining);
+        return;
+    }
+}

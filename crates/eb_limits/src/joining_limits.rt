@@ -1,0 +1,74 @@
+// The limits of joining information that can be written (eb_frame_spec/specs/Limits.antt).
+ghost use mathlib.Core.Path.{_≡_};
+ghost use Prim.Native.Nat.{_≤_};
+ghost use lib.ListN.{drop};
+ghost use Rattle.eb_frame_spec.specs.Limits.{allBelow, addressFits, presentFits, absentFits, joiningFits};
+ghost use Rattle.eb_frame_spec.specs.Range.{allFrom, below};
+use eb_record_spec::JoiningInformation;
+
+// The address fits by its type; without P it is unused.
+fn address_fits(joining: JoiningInformation) -> bool
+    ensures { λ r. ⌜ r ≡ addressFits joining ⌝ }
+{
+    if joining.proxied {
+        return true;
+    }
+    joining.address == 0
+}
+
+// Whether the bytes of a network ID from a place to another are below a bound.
+fn network_below(network: [u8; 16], from: usize, to: usize, bound: u16) -> bool
+    requires { ⌜ (from ≤ to) × (to ≤ 16) ⌝ }
+    ensures { λ r. ⌜ r ≡ allFrom (below bound) network from to ⌝ }
+{
+    let mut ok = true;
+    let mut i = to;
+    while from < i {
+        i -= 1;
+        ok = ((network[i] as u16) < bound) & ok;
+    }
+    ok
+}
+
+// Whether the bytes of a network ID from a place on are unused.
+fn network_unused(network: [u8; 16], from: usize) -> bool
+    requires { ⌜ from ≤ 16 ⌝ }
+    ensures { λ r. ⌜ r ≡ allBelow 1 (drop from network) ⌝ }
+{
+    network_below(network, from, 16, 1)
+}
+
+fn present_fits(joining: JoiningInformation) -> bool
+    ensures { λ r. ⌜ r ≡ presentFits joining ⌝ }
+{
+    let network = joining.network;
+    let used = eb_sizes::at_most_16(joining.length);
+    (joining.proxy < 128)
+        & ((joining.rank < 4096)
+            & (address_fits(joining)
+                & ((joining.length < 17)
+                    & (network_below(network, 0, used, 256) & network_unused(network, used)))))
+}
+
+fn absent_fits(joining: JoiningInformation) -> bool
+    ensures { λ r. ⌜ r ≡ absentFits joining ⌝ }
+{
+    let network = joining.network;
+    !joining.router
+        & (!joining.proxied
+            & ((joining.proxy == 0)
+                & ((joining.rank == 0)
+                    & ((joining.pan == 0)
+                        & ((joining.address == 0)
+                            & ((joining.length == 0) & network_unused(network, 0)))))))
+}
+
+// Whether joining information is within the limits of writing.
+pub fn joining_fits(joining: JoiningInformation) -> bool
+    ensures { λ r. ⌜ r ≡ joiningFits joining ⌝ }
+{
+    if joining.present {
+        return present_fits(joining);
+    }
+    absent_fits(joining)
+}

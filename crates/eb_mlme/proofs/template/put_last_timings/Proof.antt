@@ -1,0 +1,58 @@
+-- `eb_mlme::template::put_last_timings` meets its contract. Assumes nothing.
+use Rattle.eb_mlme.proofs.TemplateLaws.{templates}
+use borrow.Author.Needs.{needs}
+use Rattle.eb_mlme.proofs.template.put_last_timings.Statement.{statement}
+use Rattle.eb_mlme.proofs.template.put_last_timings.Tie as tie
+
+returns : tie.Need-returns
+returns c = search (needs, templates)
+
+last-width-requires : tie.Need-last-width-requires
+last-width-requires c κs = search needs
+
+array-read-put-le : tie.Need-array-read-put-le
+array-read-put-le c = search needs
+
+cast-put-le : tie.Need-cast-put-le
+cast-put-le c = search needs
+
+put-le-requires : tie.Need-put-le-requires
+put-le-requires c κs = search needs
+
+cast-put-le-2 : tie.Need-cast-put-le-2
+cast-put-le-2 c = search needs
+
+add-put-le : tie.Need-add-put-le
+add-put-le c = search needs
+
+array-read-put-le-2 : tie.Need-array-read-put-le-2
+array-read-put-le-2 c = search needs
+
+cast-put-le-3 : tie.Need-cast-put-le-3
+cast-put-le-3 c = search needs
+
+put-le-requires-2 : tie.Need-put-le-requires-2
+put-le-requires-2 c κs = search needs
+
+same-length : tie.Need-same-length
+same-length c = search needs
+
+returns-2 : tie.Need-returns-2
+returns-2 c = search (needs, templates)
+
+pub put-last-timings-spec : {M : Type 1} → statement M
+put-last-timings-spec =
+    tie.close
+    (tie.spec
+    returns
+    last-width-requires
+    array-read-put-le
+    cast-put-le
+    put-le-requires
+    cast-put-le-2
+    add-put-le
+    array-read-put-le-2
+    cast-put-le-3
+    put-le-requires-2
+    same-length
+    returns-2)

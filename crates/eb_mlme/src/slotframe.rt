@@ -1,0 +1,54 @@
+// The slotframe and link element of a frame, put into a lent room from a place on; past the end of the room nothing is stored.
+ghost use mathlib.Core.Path.{_≡_};
+ghost use mathlib.Core.List.{_++_};
+ghost use Prim.Native.Nat.{_+_, _*_, _≤_};
+ghost use lib.ListN.{take};
+ghost use Rattle.octets_spec.specs.Number.{leBytes, stored};
+ghost use Rattle.eb_frame_spec.specs.Frame.{shortDescriptor, linkBytes, linksBytes, slotframeBytes};
+use eb_record_spec::Link;
+use eb_record_spec::Slotframe;
+
+// A link as one number of five bytes: timeslot, channel offset, options.
+fn link_number(link: Link) -> u64
+    ensures { λ r. ⌜ leBytes 5 r ≡ linkBytes link ⌝ }
+{
+    link.timeslot as u64 + link.offset as u64 * 65536 + link.options as u64 * 4294967296
+}
+
+fn put_links(room: &mut [u8], at: usize, links: [Link; 16], used: usize)
+    requires { ⌜ used ≤ 16 ⌝ }
+    ensures { λ _. ⌜ now (room .exit) ≡ stored (now (room .entry)) at (linksBytes (take used links)) ⌝ }
+{
+    if room.len() <= at {
+        return;
+    }
+    let mut i = 0;
+    while i < used {
+        octets::put::put_le(room, at + 5 * i, 5, link_number(links[i]));
+        i += 1;
+    }
+}
+
+// What stands before the links, as one number of seven bytes: descriptor, slotframe count, handle, size, number of links.
+fn head_number(handle: u8, size: u16, count: u8) -> u64
+    ensures { λ r. ⌜ leBytes 7 r ≡ shortDescriptor 27 (5 + 5 * count) ++ (leBytes 1 1 ++ (leBytes 1 handle ++ (leBytes 2 size ++ leBytes 1 count))) ⌝ }
+{
+    (6917 + 5 * count as u64)
+        + 65536
+        + handle as u64 * 16777216
+        + size as u64 * 4294967296
+        + count as u64 * 281474976710656
+}
+
+// The slotframe and link element.
+pub fn put_slotframe(room: &mut [u8], at: usize, slotframe: Slotframe)
+    ensures { λ _. ⌜ now (room .exit) ≡ stored (now (room .entry)) at (slotframeBytes slotframe) ⌝ }
+{
+    if room.len() <= at {
+        return;
+    }
+    let links = slotframe.links;
+    let head = head_number(slotframe.handle, slotframe.size, slotframe.count);
+    octets::put::put_le(room, at, 7, head);
+    put_links(room, at + 7, links, eb_sizes::at_most_16(slotframe.count));
+}

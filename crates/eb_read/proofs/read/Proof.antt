@@ -1,0 +1,26 @@
+-- `eb_read::read` meets its contract. Assumes nothing.
+use Rattle.eb_read_spec.proofs.Claimed.{numbers-to-8, one-is-the-length}
+use Rattle.eb_read_spec.proofs.Accepted.{accepted-may-be-decided-on}
+use Rattle.eb_read_spec.proofs.ReadLaws.{read-refused, read-done}
+use mathlib.Core.Path.{refl, _∙_}
+use borrow.Author.Needs.{needs}
+use Rattle.eb_read.proofs.read.Statement.{statement}
+use Rattle.eb_read.proofs.read.Tie as tie
+
+examine-requires : tie.Need-examine-requires
+examine-requires c κs = search needs
+
+blank-requires : tie.Need-blank-requires
+blank-requires c κs = search needs
+
+returns : tie.Need-returns
+returns c = (read-refused _ _ (c .before .before .before .examine .ensures .0) _ (search needs) (c .blank .ensures), (numbers-to-8, (one-is-the-length, accepted-may-be-decided-on)))
+
+accepted-requires : tie.Need-accepted-requires
+accepted-requires c κs = search needs
+
+returns-2 : tie.Need-returns-2
+returns-2 c = (c .accepted .ensures ∙ read-done _ _ (c .before .before .before .before .examine .ensures .0) _ (search needs) refl, (numbers-to-8, (one-is-the-length, accepted-may-be-decided-on)))
+
+pub read-spec : {M : Type 1} → statement M
+read-spec = tie.close (tie.spec examine-requires blank-requires returns accepted-requires returns-2)

@@ -1,0 +1,254 @@
+-- What holds of every element that the walk noted: it passed the tests of its kind, so that the bytes at its place are within the
+-- limits of reading, and it lies before the end of the list. A place that is 0 is none. Assumes nothing.
+use Prim.Native.Nat.{ℕ, zero, suc, _+_, _-_, _*_, _/_, _%_, _≤_}
+use mathlib.Core.Path.{_≡_, refl}
+use mathlib.Core.Bool.{true}
+use mathlib.Core.List.{List}
+use mathlib.Core.Logic.{_⊎_, inl, inr}
+use native.Mathlib.Omega.{arith}
+use lib.ListN.{length, getD}
+use Rattle.octets_spec.specs.Choice.{ifEq}
+use Rattle.octets_spec.specs.Number.{leAt}
+use Rattle.octets_spec.proofs.ChoiceLaws.{was-ge, was-eq, was-ne, was-on, either-eq}
+use Rattle.refusal.specs.Refusal.{done, shape, missingOrTwice, outOfLimits}
+use Rattle.ie_verdict_spec.specs.Verdict.{syncFault, timeslotFault, hoppingFault, slotframeShape, slotframeLimits, slotframeFault, joiningFault, timeslotsFit, slotframeFaultAt, partFault}
+use Rattle.ie_verdict_spec.specs.declared.Seen.{Seen}
+use Rattle.ie_step_spec.specs.Payload.{outerAt, outerWithin, innerAt, innerWithin}
+use Rattle.ie_step_spec.specs.declared.OuterStep.{OuterStep}
+use Rattle.ie_step_spec.specs.declared.OuterStep.the-variants as outer
+use Rattle.ie_step_spec.specs.declared.InnerStep.{InnerStep}
+use Rattle.ie_step_spec.specs.declared.InnerStep.the-variants as inner
+use Rattle.ie_walk_spec.specs.Walk.{seenOf, skipOne, taken, stopped, partTaken, outerGo, groupGo, payloadList}
+use Rattle.ie_walk_spec.specs.declared.Walk.{Walk}
+use Rattle.ie_walk_spec.specs.declared.Headed.{Headed}
+use Rattle.eb_read_spec.specs.declared.Examination.{Examination}
+use Rattle.eb_read_spec.specs.Read.{headedWalk, blankWalk, elementsWalk, elementsPlace, examined}
+use Rattle.eb_read_spec.proofs.Each.{each-eq, each-eq-2}
+use Rattle.eb_read_spec.proofs.Within.{outer-within, inner-within}
+
+-- ---- what the bytes of an element are once it passed
+-- slotframe and link: 1 to 16 links, a size of at least 1, each timeslot below the size
+pub record SlotframePassed (s : List ℕ) (at : ℕ) : Type 0 where
+  pub some : 1 ≤ getD s (at + 4) 0
+  pub few : getD s (at + 4) 0 ≤ 16
+  pub sized : 1 ≤ leAt 2 s (at + 2)
+  pub below : timeslotsFit s (at + 5) (getD s (at + 4) 0) (leAt 2 s (at + 2)) ≡ true
+
+-- timeslot: one of the lengths with timings, or the ID alone, which is 0
+abbrev pub TimeslotPassed : List ℕ → ℕ → ℕ → Type 0
+TimeslotPassed s at to = (to - at ≡ 25) ⊎ ((to - at ≡ 27) ⊎ ((to - at ≡ 1) × (getD s at 0 ≡ 0)))
+
+-- joining information: four bytes, eight of an address if P, and 0 to 16 of a network ID
+pub record JoiningPassed (s : List ℕ) (at to : ℕ) : Type 0 where
+  pub least : 4 + 8 * (getD s at 0 / 64 % 2) ≤ to - at
+  pub most : to - at ≤ 4 + 8 * (getD s at 0 / 64 % 2) + 16
+
+-- every element that a walk noted passed, and lies before the end
+pub record Noted (s : List ℕ) (end : ℕ) (w : Walk) : Type 0 where
+  pub slotframe : (w .slotframe ≡ 0 → ⊥) → SlotframePassed s (w .slotframe)
+  pub timeslot : (w .timeslot ≡ 0 → ⊥) → TimeslotPassed s (w .timeslot) (w .timeslotend)
+  pub joining : (w .joining ≡ 0 → ⊥) → JoiningPassed s (w .joining) (w .joiningend)
+  pub synchronizationEnd : (w .synchronization ≡ 0 → ⊥) → w .synchronization + 6 ≤ end
+  pub timeslotEnd : (w .timeslot ≡ 0 → ⊥) → w .timeslotend ≤ end
+  pub hoppingEnd : (w .hopping ≡ 0 → ⊥) → w .hopping + 1 ≤ end
+  pub slotframeEnd : (w .slotframe ≡ 0 → ⊥) → w .slotframe + (5 + 5 * getD s (w .slotframe + 4) 0) ≤ end
+  pub joiningEnd : (w .joining ≡ 0 → ⊥) → w .joiningend ≤ end
+
+-- ---- an element without a fault passed
+-- numbers of faults are not 0
+wrong-shape : shape ≡ done → ⊥
+wrong-shape e = omega arith
+
+pub twice : missingOrTwice ≡ done → ⊥
+twice e = omega arith
+
+over-limits : outOfLimits ≡ done → ⊥
+over-limits e = omega arith
+
+limits-passed : (s : List ℕ) (at : ℕ) → slotframeLimits (leAt 2 s (at + 2)) (getD s (at + 4) 0) (timeslotsFit s (at + 5) (getD s (at + 4) 0) (leAt 2 s (at + 2))) ≡ 0 → SlotframePassed s at
+unfolding slotframeLimits
+limits-passed s at e =
+    let size = was-ne _ _ _ _ _ e over-limits in
+    let links = was-ne _ _ _ _ _ (size .1) over-limits in
+    let most = was-ge _ _ _ _ _ (links .1) over-limits in
+    let all = was-on _ _ _ _ (most .1) over-limits in
+    let sized : leAt 2 s (at + 2) ≡ 0 → ⊥ = size .0 in
+    let some : getD s (at + 4) 0 ≡ 0 → ⊥ = links .0 in
+    record { some = omega arith; few = most .0; sized = omega arith; below = all .0 }
+
+slotframe-passed : (s : List ℕ) (at length seen : ℕ) → slotframeFaultAt s at length seen ≡ 0 → SlotframePassed s at
+unfolding slotframeFaultAt slotframeFault
+slotframe-passed s at length seen =
+    each-eq (λ (n : ℕ). n ≡ 0 → SlotframePassed s at) _ _ _ _ (λ shaped e. limits-passed s at (was-eq _ _ _ _ _ e twice .1)) (λ misshapen e. absurd (misshapen e))
+
+timeslot-passed : (s : List ℕ) (at to seen : ℕ) → timeslotFault (to - at) seen (getD s at 0) ≡ 0 → TimeslotPassed s at to
+unfolding timeslotFault
+timeslot-passed s at to seen =
+    let P : ℕ → Type 0 = λ n. n ≡ 0 → TimeslotPassed s at to in
+    each-eq P _ _ _ _ (λ long e. inl long)
+    (λ not-25. each-eq P _ _ _ _ (λ long e. inr (inl long))
+    (λ not-27 e.
+    let alone = was-eq _ _ _ _ _ e wrong-shape in
+    let once = was-eq _ _ _ _ _ (alone .1) twice in
+    inr (inr (alone .0, was-eq _ _ _ _ _ (once .1) over-limits .0))))
+
+joining-passed : (s : List ℕ) (at to seen : ℕ) → joiningFault (to - at) seen (getD s at 0 / 64 % 2) ≡ 0 → JoiningPassed s at to
+unfolding joiningFault
+joining-passed s at to seen e =
+    let least = was-ge _ _ _ _ _ e wrong-shape in
+    let most = was-ge _ _ _ _ _ (least .1) wrong-shape in
+    record { least = least .0; most = most .0 }
+
+-- ---- and where it ends
+sync-ends : (from to seen end : ℕ) → to ≤ end → syncFault (to - from) seen ≡ 0 → from + 6 ≤ end
+unfolding syncFault
+sync-ends from to seen end h e = let six = was-eq _ _ _ _ _ e wrong-shape .0 in omega (arith, six, h)
+
+hopping-ends : (from to seen end : ℕ) → to ≤ end → hoppingFault (to - from) seen ≡ 0 → from + 1 ≤ end
+unfolding hoppingFault
+hopping-ends from to seen end h e = let some : to - from ≡ 0 → ⊥ = was-ne _ _ _ _ _ e wrong-shape .0 in omega arith
+
+shape-ends : (from to count links end : ℕ) → to ≤ end → slotframeShape (to - from) count links ≡ 0 → from + (5 + 5 * links) ≤ end
+unfolding slotframeShape
+shape-ends from to count links end h e =
+    let least = was-ge _ _ _ _ _ e wrong-shape in
+    let one = was-eq _ _ _ _ _ (least .1) over-limits in
+    let long = was-eq _ _ _ _ _ (one .1) wrong-shape .0 in
+    omega (arith, long, h)
+
+slotframe-ends : (s : List ℕ) (from to seen end : ℕ) → to ≤ end → slotframeFaultAt s from (to - from) seen ≡ 0 → from + (5 + 5 * getD s (from + 4) 0) ≤ end
+unfolding slotframeFaultAt slotframeFault
+slotframe-ends s from to seen end h =
+    each-eq (λ (n : ℕ). n ≡ 0 → from + (5 + 5 * getD s (from + 4) 0) ≤ end) _ _ _ _ (λ shaped e. shape-ends from to _ _ end h shaped) (λ misshapen e. absurd (misshapen e))
+
+-- by its kind
+module _ (s : List ℕ) (from to : ℕ) (seen : Seen) where
+  kind-slotframe : partFault s 27 from to seen ≡ 0 → SlotframePassed s from
+  unfolding partFault ifEq
+  kind-slotframe e = slotframe-passed s from (to - from) (seen .slotframe) e
+
+  kind-timeslot : partFault s 28 from to seen ≡ 0 → TimeslotPassed s from to
+  unfolding partFault ifEq
+  kind-timeslot e = timeslot-passed s from to (seen .timeslot) e
+
+  kind-joining : partFault s 258 from to seen ≡ 0 → JoiningPassed s from to
+  unfolding partFault ifEq
+  kind-joining e = joining-passed s from to (seen .joining) e
+
+  module _ (end : ℕ) (h : to ≤ end) where
+    pub kind-sync-ends : partFault s 26 from to seen ≡ 0 → from + 6 ≤ end
+    unfolding partFault ifEq
+    kind-sync-ends e = sync-ends from to (seen .synchronization) end h e
+
+    pub kind-hopping-ends : partFault s 137 from to seen ≡ 0 → from + 1 ≤ end
+    unfolding partFault ifEq
+    kind-hopping-ends e = hopping-ends from to (seen .hopping) end h e
+
+    pub kind-slotframe-ends : partFault s 27 from to seen ≡ 0 → from + (5 + 5 * getD s (from + 4) 0) ≤ end
+    unfolding partFault ifEq
+    kind-slotframe-ends e = slotframe-ends s from to (seen .slotframe) end h e
+
+-- ---- the walk
+module _ (s : List ℕ) (end : ℕ) where
+  -- no element is noted where the walk begins
+  pub headed-noted : (head : Headed) → Noted s end (headedWalk head)
+  unfolding headedWalk
+  headed-noted head = record {
+    slotframe = λ some. absurd (some refl);
+    timeslot = λ some. absurd (some refl);
+    joining = λ some. absurd (some refl);
+    synchronizationEnd = λ some. absurd (some refl);
+    timeslotEnd = λ some. absurd (some refl);
+    hoppingEnd = λ some. absurd (some refl);
+    slotframeEnd = λ some. absurd (some refl);
+    joiningEnd = λ some. absurd (some refl);
+  }
+
+  module _ (w : Walk) (h : Noted s end w) where
+    -- what a walk notes besides its elements does not matter
+    noted-besides : (fault faulty skipped : ℕ)
+        → Noted s end (record { fault = fault; faulty = faulty; skipped = skipped; synchronization = w .synchronization; timeslot = w .timeslot; timeslotend = w .timeslotend; hopping = w .hopping; slotframe = w .slotframe; joining = w .joining; joiningend = w .joiningend })
+    noted-besides fault faulty skipped = record {
+      slotframe = h .slotframe;
+      timeslot = h .timeslot;
+      joining = h .joining;
+      synchronizationEnd = h .synchronizationEnd;
+      timeslotEnd = h .timeslotEnd;
+      hoppingEnd = h .hoppingEnd;
+      slotframeEnd = h .slotframeEnd;
+      joiningEnd = h .joiningEnd;
+    }
+
+    skip-noted : Noted s end (skipOne w)
+    unfolding skipOne
+    skip-noted = noted-besides _ _ _
+
+    stop-noted : (fault at : ℕ) → Noted s end (stopped w fault at)
+    unfolding stopped
+    stop-noted fault at = noted-besides _ _ _
+
+    module _ (kind from to : ℕ) (before : to ≤ end) where
+      taken-noted : partFault s kind from to (seenOf w) ≡ 0 → Noted s end (taken w kind from to)
+      unfolding taken
+      taken-noted e =
+          let q = seenOf w in
+          record {
+            slotframe = each-eq (λ (at : ℕ). (at ≡ 0 → ⊥) → SlotframePassed s at) _ _ _ _ (λ k some. kind-slotframe s from to q (rw k at e)) (λ k. h .slotframe);
+            timeslot = each-eq-2 (λ (at stop : ℕ). (at ≡ 0 → ⊥) → TimeslotPassed s at stop) _ _ _ _ _ _ (λ k some. kind-timeslot s from to q (rw k at e)) (λ k. h .timeslot);
+            joining = each-eq-2 (λ (at stop : ℕ). (at ≡ 0 → ⊥) → JoiningPassed s at stop) _ _ _ _ _ _ (λ k some. kind-joining s from to q (rw k at e)) (λ k. h .joining);
+            synchronizationEnd = each-eq (λ (at : ℕ). (at ≡ 0 → ⊥) → at + 6 ≤ end) _ _ _ _ (λ k some. kind-sync-ends s from to q end before (rw k at e)) (λ k. h .synchronizationEnd);
+            timeslotEnd = each-eq-2 (λ (at stop : ℕ). (at ≡ 0 → ⊥) → stop ≤ end) _ _ _ _ _ _ (λ k some. before) (λ k. h .timeslotEnd);
+            hoppingEnd = each-eq (λ (at : ℕ). (at ≡ 0 → ⊥) → at + 1 ≤ end) _ _ _ _ (λ k some. kind-hopping-ends s from to q end before (rw k at e)) (λ k. h .hoppingEnd);
+            slotframeEnd = each-eq (λ (at : ℕ). (at ≡ 0 → ⊥) → at + (5 + 5 * getD s (at + 4) 0) ≤ end) _ _ _ _ (λ k some. kind-slotframe-ends s from to q end before (rw k at e)) (λ k. h .slotframeEnd);
+            joiningEnd = each-eq-2 (λ (at stop : ℕ). (at ≡ 0 → ⊥) → stop ≤ end) _ _ _ _ _ _ (λ k some. before) (λ k. h .joiningEnd);
+          }
+
+      part-noted : (at : ℕ) → Noted s end (partTaken s w kind from to at)
+      unfolding partTaken
+      part-noted at = each-eq (λ (t : Walk). Noted s end t) _ _ _ _ (λ e. taken-noted e) (λ bad. stop-noted _ at)
+
+-- what the lists keep at a bound: a group ends before the end of its list
+abbrev Outers : ℕ → Type 0
+Outers bound = (s : List ℕ) (at end : ℕ) (w : Walk) → Noted s end w → Noted s end (outerGo bound s at end w)
+
+abbrev Groups : ℕ → Type 0
+Groups bound = (s : List ℕ) (at to end : ℕ) (w : Walk) → to ≤ end → Noted s end w → Noted s end (groupGo bound s at to end w)
+
+module _ (bound : ℕ) (outers : Outers bound) (groups : Groups bound) (s : List ℕ) where
+  outer-step : (at end : ℕ) (w : Walk) → Noted s end w → (o : OuterStep) → outerAt s at end ≡ o → outerWithin o (at + 2) end → Noted s end (outerGo (suc bound) s at end w)
+  unfolding outerGo
+  outer-step at end w h outer.End e k = rw (e, outerGo) h
+  outer-step at end w h (outer.Group from to) e k = rw (e, outerGo) (groups s from to end w (k .2) h)
+  outer-step at end w h (outer.Joining from to) e k =
+      let t = part-noted s end w h 258 from to (k .2) at in
+      rw (e, outerGo) (either-eq (λ (r : Walk). Noted s end r) _ _ (outers s to end _ t) t _ _)
+  outer-step at end w h (outer.Skip to) e k = rw (e, outerGo) (outers s to end (skipOne w) (skip-noted s end w h))
+  outer-step at end w h (outer.Fault number) e k = rw (e, outerGo) (stop-noted s end w h number at)
+
+  group-step : (at to end : ℕ) (w : Walk) → to ≤ end → Noted s end w → (o : InnerStep) → innerAt s at to ≡ o → innerWithin o at to → Noted s end (groupGo (suc bound) s at to end w)
+  unfolding groupGo
+  group-step at to end w b h inner.Back e k = rw (e, groupGo) (outers s to end w h)
+  group-step at to end w b h (inner.Part kind from next) e k =
+      let before : next ≤ end = omega (arith, k, b) in
+      let t = part-noted s end w h kind from next before at in
+      rw (e, groupGo) (either-eq (λ (r : Walk). Noted s end r) _ _ (groups s next to end _ b t) t _ _)
+  group-step at to end w b h (inner.Fault number) e k = rw (e, groupGo) (stop-noted s end w h number at)
+
+lists-noted : (bound : ℕ) → Outers bound × Groups bound
+unfolding outerGo groupGo
+lists-noted zero = (λ s at end w h. h, λ s at to end w b h. h)
+lists-noted (suc bound) =
+    let outers : Outers bound = lists-noted bound .0 in
+    let groups : Groups bound = lists-noted bound .1 in
+    (λ s at end w h. outer-step bound outers groups s at end w h (outerAt s at end) refl (outer-within s at end), λ s at to end w b h. group-step bound outers groups s at to end w b h (innerAt s at to) refl (inner-within s at to))
+
+pub elements-noted : (s : List ℕ) (at end : ℕ) → Noted s end (elementsWalk s at end)
+unfolding elementsWalk payloadList
+elements-noted s at end =
+    let P : Walk → Type 0 = λ w. Noted s end w in
+    either-eq P _ _ (either-eq P _ _ (headed-noted s end _) (lists-noted _ .0 s _ end _ (headed-noted s end _)) _ _) (headed-noted s end _) _ _
+
+pub examined-noted : (s : List ℕ) → Noted s (length s) (examined s .walk)
+unfolding examined blankWalk
+examined-noted s =
+    either-eq (λ (x : Examination). Noted s (length s) (x .walk)) _ _ (elements-noted s (elementsPlace s) (length s)) (headed-noted s (length s) _) _ _

@@ -1,0 +1,196 @@
+-- Every number of reading is one of 0 to 8, and 1 is given for the length alone. Assumes nothing.
+use Prim.Native.Nat.{ℕ, zero, suc, _+_, _-_, _≤_}
+use mathlib.Core.Path.{_≡_, refl, sym, subst}
+use mathlib.Core.Bool.{Bool, true, false, not, _&&_}
+use mathlib.Core.List.{List}
+use lib.Dec.{T, T-not, leb, eqb, leb→le}
+use lib.ListN.{length, getD}
+use Rattle.octets_spec.specs.Choice.{ifOn, ifLt, ifEq}
+use Rattle.octets_spec.specs.Number.{leAt}
+use Rattle.octets_spec.proofs.ChoiceLaws.{if-ge, either-on, either-lt, either-eq}
+use Rattle.mac_header_spec.specs.Control.{controlOf, placesOf, formFault, openingFault}
+use Rattle.mac_header_spec.specs.declared.Control.{Control}
+use Rattle.ie_verdict_spec.specs.Verdict.{onceOnly, syncFault, timeslotFault, hoppingFault, slotframeShape, slotframeLimits, slotframeFault, joiningFault, slotframeFaultAt, partFault}
+use Rattle.ie_verdict_spec.specs.declared.Seen.{Seen}
+use Rattle.ie_step_spec.specs.Header.{headerWord, headerAt}
+use Rattle.ie_step_spec.specs.Payload.{groupOf, outerWord, outerAt, innerWord, innerAt}
+use Rattle.ie_step_spec.specs.declared.HeaderStep.{HeaderStep}
+use Rattle.ie_step_spec.specs.declared.HeaderStep.the-variants as header
+use Rattle.ie_step_spec.specs.declared.OuterStep.{OuterStep}
+use Rattle.ie_step_spec.specs.declared.OuterStep.the-variants as outer
+use Rattle.ie_step_spec.specs.declared.InnerStep.{InnerStep}
+use Rattle.ie_step_spec.specs.declared.InnerStep.the-variants as inner
+use Rattle.ie_walk_spec.specs.Walk.{seenOf, skipOne, taken, stopped, partTaken, headerGo, headerList, outerGo, groupGo, payloadList}
+use Rattle.ie_walk_spec.specs.declared.Walk.{Walk}
+use Rattle.ie_walk_spec.specs.declared.Headed.{Headed}
+use Rattle.eb_read_spec.specs.declared.Examination.{Examination}
+use Rattle.eb_read_spec.specs.Read.{headedWalk, elementsWalk, missing, walkNumber, elementsPlace, examined}
+
+-- a number from 0 to 8 but 1, as a test that computes at a literal
+abbrev Small : ℕ → Type 0
+Small n = T (leb n 8 && not (eqb n 1))
+
+pub both-left : (a b : Bool) → T (a && b) → T a
+both-left true b t = tt
+both-left false b t = t
+
+pub both-right : (a b : Bool) → T (a && b) → T b
+both-right true b t = t
+both-right false b t = absurd t
+
+pub at-most-8 : (n : ℕ) → Small n → n ≤ 8
+at-most-8 n h = leb→le n 8 (both-left (leb n 8) (not (eqb n 1)) h)
+
+pub not-1 : (n : ℕ) → Small n → n ≡ 1 → ⊥
+not-1 n h e = T-not (eqb n 1) (both-right (leb n 8) (not (eqb n 1)) h) (subst (λ (k : ℕ). T (eqb k 1)) (sym e) tt)
+
+-- ---- the checks before the elements
+form-small : (c : Control) → Small (formFault c)
+unfolding formFault
+form-small c =
+    either-eq Small _ _ (either-eq Small _ _ (either-eq Small _ _ (either-eq Small _ _ (either-lt Small _ _ tt (either-eq Small _ _ (either-eq Small _ _ tt tt _ _) tt _ _) _ _) tt _ _) tt _ _) tt _ _) tt _ _
+
+pub opening-small : (s : List ℕ) → length s ≤ 125 → Small (openingFault s)
+unfolding openingFault
+opening-small s short = subst Small (if-ge _ _ 125 (length s) short refl) (either-lt Small _ _ tt (either-eq Small _ _ (either-lt Small _ _ tt (either-eq Small _ _ tt tt _ _) _ _) (form-small _) _ _) _ _)
+
+-- ---- the elements
+once-small : (seen : ℕ) → Small (onceOnly seen)
+unfolding onceOnly
+once-small seen = either-eq Small _ _ tt tt _ _
+
+timeslot-small : (length seen id : ℕ) → Small (timeslotFault length seen id)
+unfolding timeslotFault
+timeslot-small length seen id = either-eq Small _ _ (once-small seen) (either-eq Small _ _ (once-small seen) (either-eq Small _ _ (either-eq Small _ _ (either-eq Small _ _ tt tt _ _) tt _ _) tt _ _) _ _) _ _
+
+hopping-small : (length seen : ℕ) → Small (hoppingFault length seen)
+unfolding hoppingFault
+hopping-small length seen = either-eq Small _ _ tt (either-eq Small _ _ (either-lt Small _ _ tt tt _ _) tt _ _) _ _
+
+shape-small : (length count links : ℕ) → Small (slotframeShape length count links)
+unfolding slotframeShape
+shape-small length count links = either-lt Small _ _ tt (either-eq Small _ _ (either-eq Small _ _ tt tt _ _) tt _ _) _ _
+
+limits-small : (size links : ℕ) (below : Bool) → Small (slotframeLimits size links below)
+unfolding slotframeLimits
+limits-small size links below = either-eq Small _ _ tt (either-eq Small _ _ tt (either-lt Small _ _ tt (either-on Small _ _ tt tt _) _ _) _ _) _ _
+
+slotframe-small : (s : List ℕ) (from length seen : ℕ) → Small (slotframeFaultAt s from length seen)
+unfolding slotframeFaultAt slotframeFault
+slotframe-small s from length seen = either-eq Small _ _ (either-eq Small _ _ (limits-small _ _ _) tt _ _) (shape-small _ _ _) _ _
+
+joining-small : (length seen proxied : ℕ) → Small (joiningFault length seen proxied)
+unfolding joiningFault
+joining-small length seen proxied = either-lt Small _ _ tt (either-lt Small _ _ tt (once-small seen) _ _) _ _
+
+part-small : (s : List ℕ) (kind from to : ℕ) (seen : Seen) → Small (partFault s kind from to seen)
+unfolding partFault syncFault
+part-small s kind from to seen =
+    either-eq Small _ _ (either-eq Small _ _ (once-small _) tt _ _) (either-eq Small _ _ (timeslot-small _ _ _) (either-eq Small _ _ (hopping-small _ _) (either-eq Small _ _ (slotframe-small _ _ _ _) (either-eq Small _ _ (joining-small _ _ _) tt _ _) _ _) _ _) _ _) _ _
+
+-- ---- the steps
+abbrev HeaderSmall : HeaderStep → Type 0
+HeaderSmall header.End = Unit
+HeaderSmall (header.Payload from) = Unit
+HeaderSmall (header.Element id from to) = Unit
+HeaderSmall (header.Fault number) = Small number
+
+header-small : (s : List ℕ) (at end : ℕ) → HeaderSmall (headerAt s at end)
+unfolding headerAt headerWord
+header-small s at end =
+    let P : HeaderStep → Type 0 = λ o. HeaderSmall o in
+    either-lt P _ _ (either-lt P _ _ tt (either-lt P _ _ tt (either-eq P _ _ tt (either-eq P _ _ (either-eq P _ _ tt tt _ _) (either-eq P _ _ (either-eq P _ _ tt tt _ _) tt _ _) _ _) _ _) _ _) _ _) tt _ _
+
+abbrev OuterSmall : OuterStep → Type 0
+OuterSmall outer.End = Unit
+OuterSmall (outer.Group from to) = Unit
+OuterSmall (outer.Joining from to) = Unit
+OuterSmall (outer.Skip to) = Unit
+OuterSmall (outer.Fault number) = Small number
+
+outer-small : (s : List ℕ) (at end : ℕ) → OuterSmall (outerAt s at end)
+unfolding outerAt outerWord groupOf
+outer-small s at end =
+    let P : OuterStep → Type 0 = λ o. OuterSmall o in
+    either-lt P _ _ (either-lt P _ _ tt (either-lt P _ _ tt (either-eq P _ _ tt (either-eq P _ _ (either-eq P _ _ tt tt _ _)
+    (either-eq P _ _ tt (either-eq P _ _ (either-eq P _ _ tt (either-eq P _ _ tt tt _ _) _ _) tt _ _) _ _) _ _) _ _) _ _) _ _) tt _ _
+
+abbrev InnerSmall : InnerStep → Type 0
+InnerSmall inner.Back = Unit
+InnerSmall (inner.Part kind from to) = Unit
+InnerSmall (inner.Fault number) = Small number
+
+inner-small : (s : List ℕ) (at end : ℕ) → InnerSmall (innerAt s at end)
+unfolding innerAt innerWord
+inner-small s at end =
+    let P : InnerStep → Type 0 = λ o. InnerSmall o in
+    either-lt P _ _ (either-lt P _ _ tt (either-eq P _ _ (either-lt P _ _ tt tt _ _) (either-lt P _ _ tt tt _ _) _ _) _ _) tt _ _
+
+-- ---- the lists: one step, given the rest of the list
+header-step : (bound : ℕ) (s : List ℕ) (at end n : ℕ) → ((to m : ℕ) → Small (headerGo bound s to end m .fault)) → (o : HeaderStep) → headerAt s at end ≡ o → HeaderSmall o → Small (headerGo (suc bound) s at end n .fault)
+unfolding headerGo
+header-step bound s at end n rest header.End e f = rw (e, headerGo) tt
+header-step bound s at end n rest (header.Payload from) e f = rw (e, headerGo) tt
+header-step bound s at end n rest (header.Element id from to) e f = rw (e, headerGo) (rest to _)
+header-step bound s at end n rest (header.Fault number) e f = rw (e, headerGo) f
+
+header-go : (bound : ℕ) (s : List ℕ) (at end n : ℕ) → Small (headerGo bound s at end n .fault)
+unfolding headerGo
+header-go zero s at end n = tt
+header-go (suc bound) s at end n = header-step bound s at end n (λ to m. header-go bound s to end m) (headerAt s at end) refl (header-small s at end)
+
+abbrev WalkSmall : Walk → Type 0
+WalkSmall w = Small (w .fault)
+
+taken-part : (s : List ℕ) (w : Walk) (kind from to at : ℕ) → WalkSmall w → WalkSmall (partTaken s w kind from to at)
+unfolding partTaken taken stopped
+taken-part s w kind from to at h = either-eq WalkSmall _ _ h (part-small s kind from to (seenOf w)) _ _
+
+-- what the lists keep at a bound
+abbrev Outers : ℕ → Type 0
+Outers bound = (s : List ℕ) (at end : ℕ) (w : Walk) → WalkSmall w → WalkSmall (outerGo bound s at end w)
+
+abbrev Groups : ℕ → Type 0
+Groups bound = (s : List ℕ) (at to end : ℕ) (w : Walk) → WalkSmall w → WalkSmall (groupGo bound s at to end w)
+
+outer-step : (bound : ℕ) → Outers bound → Groups bound → (s : List ℕ) (at end : ℕ) (w : Walk) → WalkSmall w → (o : OuterStep) → outerAt s at end ≡ o → OuterSmall o → WalkSmall (outerGo (suc bound) s at end w)
+unfolding outerGo skipOne stopped
+outer-step bound outers groups s at end w h outer.End e f = rw (e, outerGo) h
+outer-step bound outers groups s at end w h (outer.Group from to) e f = rw (e, outerGo) (groups s from to end w h)
+outer-step bound outers groups s at end w h (outer.Joining from to) e f =
+    rw (e, outerGo) (either-eq WalkSmall _ _ (outers s to end _ (taken-part s w 258 from to at h)) (taken-part s w 258 from to at h) _ _)
+outer-step bound outers groups s at end w h (outer.Skip to) e f = rw (e, outerGo) (outers s to end (skipOne w) h)
+outer-step bound outers groups s at end w h (outer.Fault number) e f = rw (e, outerGo) f
+
+group-step : (bound : ℕ) → Outers bound → Groups bound → (s : List ℕ) (at to end : ℕ) (w : Walk) → WalkSmall w → (o : InnerStep) → innerAt s at to ≡ o → InnerSmall o → WalkSmall (groupGo (suc bound) s at to end w)
+unfolding groupGo stopped
+group-step bound outers groups s at to end w h inner.Back e f = rw (e, groupGo) (outers s to end w h)
+group-step bound outers groups s at to end w h (inner.Part kind from next) e f =
+    rw (e, groupGo) (either-eq WalkSmall _ _ (groups s next to end _ (taken-part s w kind from next at h)) (taken-part s w kind from next at h) _ _)
+group-step bound outers groups s at to end w h (inner.Fault number) e f = rw (e, groupGo) f
+
+both : (bound : ℕ) → Outers bound × Groups bound
+unfolding outerGo groupGo
+both zero = (λ s at end w h. h, λ s at to end w h. h)
+both (suc bound) =
+    let outers : Outers bound = both bound .0 in
+    let groups : Groups bound = both bound .1 in
+    (λ s at end w h. outer-step bound outers groups s at end w h (outerAt s at end) refl (outer-small s at end), λ s at to end w h. group-step bound outers groups s at to end w h (innerAt s at to) refl (inner-small s at to))
+
+pub elements-small : (s : List ℕ) (at end : ℕ) → WalkSmall (elementsWalk s at end)
+unfolding elementsWalk headedWalk headerList payloadList
+elements-small s at end =
+    let h : Small (headerGo (suc end) s at end 0 .fault) = header-go (suc end) s at end 0 in
+    either-eq WalkSmall _ _ (either-eq WalkSmall _ _ h (both _ .0 s _ end _ h) _ _) h _ _
+
+missing-small : (w : Walk) → Small (missing w)
+unfolding missing
+missing-small w = either-eq Small _ _ tt (either-eq Small _ _ tt (either-eq Small _ _ tt (either-eq Small _ _ tt tt _ _) _ _) _ _) _ _
+
+number-small : (w : Walk) → WalkSmall w → Small (walkNumber w)
+unfolding walkNumber
+number-small w h = either-eq Small _ _ (missing-small w) h _ _
+
+pub examined-small : (s : List ℕ) → length s ≤ 125 → Small (examined s .number)
+unfolding examined
+examined-small s short = either-eq (λ (x : Examination). Small (x .number)) _ _ (number-small _ (elements-small s (elementsPlace s) (length s))) (opening-small s short) _ _

@@ -1,0 +1,80 @@
+-- The laws of reading, in the shape in which the code meets them. Assumes nothing.
+use Prim.Native.Nat.{ℕ, _≤_}
+use mathlib.Core.Path.{_≡_, refl}
+use mathlib.Core.List.{List}
+use lib.ListN.{length}
+use Rattle.octets_spec.specs.Choice.{ifEq}
+use Rattle.octets_spec.specs.Number.{leAt}
+use Rattle.octets_spec.proofs.ChoiceLaws.{if-eq, if-ne, choices}
+use Rattle.eb_record_spec.specs.Record.{blankBeacon}
+use Rattle.eb_record_spec.specs.declared.Beacon.{Beacon}
+use Rattle.mac_header_spec.specs.Control.{controlOf, placesOf, openingFault}
+use Rattle.mac_header_spec.specs.declared.Control.{Control}
+use Rattle.mac_header_spec.specs.declared.FieldPlaces.{FieldPlaces}
+use Rattle.ie_walk_spec.specs.Walk.{headerList, payloadList}
+use Rattle.ie_walk_spec.specs.declared.Walk.{Walk}
+use Rattle.ie_walk_spec.specs.declared.Headed.{Headed}
+use Rattle.eb_decode_spec.specs.Decode.{decoded}
+use Rattle.eb_read_spec.specs.Read.{headedWalk, blankWalk, elementsWalk, missing, walkNumber, elementsPlace, examined, readFrame}
+use Rattle.eb_read_spec.specs.declared.Examination.{Examination}
+use Rattle.eb_read_spec.proofs.Numbers.{at-most-8, elements-small}
+
+pub heads : (head : Headed) → record { fault = head .fault; faulty = head .faulty; skipped = head .skipped; synchronization = 0; timeslot = 0; timeslotend = 0; hopping = 0; slotframe = 0; joining = 0; joiningend = 0 } ≡ headedWalk head
+unfolding headedWalk
+heads head = refl
+
+pub blanks : record { fault = 0; faulty = 0; skipped = 0; synchronization = 0; timeslot = 0; timeslotend = 0; hopping = 0; slotframe = 0; joining = 0; joiningend = 0 } ≡ blankWalk
+unfolding blankWalk headedWalk
+blanks = refl
+
+-- ---- the elements
+module _ (s : List ℕ) (at end : ℕ) (head : Headed) (start : Walk) (h : head ≡ headerList s at end) (b : start ≡ headedWalk head) where
+  pub header-faulty : (head .fault ≡ 0 → ⊥) → start ≡ elementsWalk s at end
+  unfolding elementsWalk
+  header-faulty bad = rw (← h) (if-ne _ _ _ _ bad b)
+
+  module _ (good : head .fault ≡ 0) where
+    pub header-only : head .payload ≡ 0 → start ≡ elementsWalk s at end
+    unfolding elementsWalk
+    header-only none = rw (← h) (if-eq _ _ _ _ good (if-eq _ _ _ _ none b))
+
+    pub header-and-payload : (r : Walk) → (head .payload ≡ 0 → ⊥) → r ≡ payloadList s (head .payload) end start → r ≡ elementsWalk s at end
+    unfolding elementsWalk
+    header-and-payload r some e = rw (← h) (if-eq _ _ _ _ good (if-ne _ _ _ _ some (rw b at e)))
+
+pub places-at : (s : List ℕ) (word : ℕ) (control : Control) (places : FieldPlaces) → word ≡ leAt 2 s 0 → control ≡ controlOf word → places ≡ placesOf control → places .elements ≡ elementsPlace s
+unfolding elementsPlace
+places-at s word control places e f g = rw (g, f, e)
+
+pub walk-small : (s : List ℕ) (at end : ℕ) (w : Walk) → w ≡ elementsWalk s at end → w .fault ≤ 8
+walk-small s at end w e = rw e (at-most-8 _ (elements-small s at end))
+
+-- ---- the number and the record
+module _ (w : Walk) where
+  pub faulty : (w .fault ≡ 0 → ⊥) → w .fault ≡ walkNumber w
+  unfolding walkNumber
+  faulty h = if-ne _ _ _ _ h refl
+
+  pub faultless : (n : ℕ) → w .fault ≡ 0 → n ≡ missing w → n ≡ walkNumber w
+  unfolding walkNumber
+  faultless n h e = if-eq _ _ _ _ h e
+
+module _ (s : List ℕ) (fault : ℕ) (f : fault ≡ openingFault s) where
+  pub examined-opening : (w : Walk) → (fault ≡ 0 → ⊥) → w ≡ blankWalk → record { number = fault; walk = w } ≡ examined s
+  unfolding examined
+  examined-opening w bad e = rw (← f) (if-ne _ _ fault 0 bad (rw e))
+
+  pub examined-walk : (w : Walk) (at n : ℕ) → fault ≡ 0 → at ≡ elementsPlace s → w ≡ elementsWalk s at (length s) → n ≡ walkNumber w → record { number = n; walk = w } ≡ examined s
+  unfolding examined
+  examined-walk w at n good p e g = rw (← f) (if-eq _ _ fault 0 good (rw (g, e, p)))
+
+module _ (s : List ℕ) (x : Examination) (e : x ≡ examined s) where
+  pub read-refused : (b : Beacon) → (x .number ≡ 0 → ⊥) → b ≡ blankBeacon → record { number = x .number; beacon = b } ≡ readFrame s
+  unfolding readFrame
+  read-refused b bad f = rw (← e) (if-ne _ _ _ _ bad (rw f))
+
+  pub read-done : (b : Beacon) → x .number ≡ 0 → b ≡ decoded s (x .walk) → record { number = 0; beacon = b } ≡ readFrame s
+  unfolding readFrame
+  read-done b good f = rw (← e) (if-eq _ _ _ _ good (rw f))
+
+pub ruleset reading = (choices, heads, blanks, header-faulty, header-only, header-and-payload, places-at, walk-small, faulty, faultless, examined-opening, examined-walk, read-refused, read-done)

@@ -1,0 +1,74 @@
+-- Reading: the checks in their order, and the record (docs/RULES.md, The order of checks). Assumes nothing.
+use Prim.Native.Nat.{ℕ}
+use mathlib.Core.List.{List}
+use lib.ListN.{length}
+use Rattle.octets_spec.specs.Choice.{ifEq}
+use Rattle.octets_spec.specs.Number.{leAt}
+use Rattle.refusal.specs.Refusal.{done, missingOrTwice}
+use Rattle.eb_record_spec.specs.Record.{blankBeacon}
+use Rattle.mac_header_spec.specs.Control.{controlOf, placesOf, openingFault}
+use Rattle.ie_walk_spec.specs.Walk.{headerList, payloadList}
+use Rattle.ie_walk_spec.specs.declared.Walk.{Walk}
+use Rattle.ie_walk_spec.specs.declared.Headed.{Headed}
+use Rattle.eb_decode_spec.specs.Decode.{decoded}
+use Rattle.eb_read_spec.specs.declared.Examination.{Examination}
+use Rattle.eb_read_spec.specs.declared.ReadAnswer.{ReadAnswer}
+
+-- where the walk begins behind the header list: no element is noted
+unfoldable pub headedWalk : Headed → Walk
+headedWalk head = record {
+  fault = head .fault;
+  faulty = head .faulty;
+  skipped = head .skipped;
+  synchronization = 0;
+  timeslot = 0;
+  timeslotend = 0;
+  hopping = 0;
+  slotframe = 0;
+  joining = 0;
+  joiningend = 0;
+}
+
+-- no walk
+unfoldable pub blankWalk : Walk
+blankWalk = headedWalk (record { fault = done; faulty = 0; skipped = 0; payload = 0 })
+
+-- the elements in byte order: the header list, and the payload list if one follows
+unfoldable pub elementsWalk : List ℕ → ℕ → ℕ → Walk
+elementsWalk s at end =
+    let head = headerList s at end in
+    ifEq (head .fault) done
+    (ifEq (head .payload) 0 (headedWalk head) (payloadList s (head .payload) end (headedWalk head)))
+    (headedWalk head)
+
+-- synchronization, timeslot, hopping and slotframe are required
+unfoldable pub missing : Walk → ℕ
+missing w =
+    ifEq (w .synchronization) 0 missingOrTwice
+    (ifEq (w .timeslot) 0 missingOrTwice
+    (ifEq (w .hopping) 0 missingOrTwice
+    (ifEq (w .slotframe) 0 missingOrTwice
+    done)))
+
+-- the first fault wins, and missing elements come last
+unfoldable pub walkNumber : Walk → ℕ
+walkNumber w = ifEq (w .fault) done (missing w) (w .fault)
+
+-- the elements start behind the fixed fields
+unfoldable pub elementsPlace : List ℕ → ℕ
+elementsPlace s = placesOf (controlOf (leAt 2 s 0)) .elements
+
+-- the number of a frame, and what the walk over its elements noted
+unfoldable pub examined : List ℕ → Examination
+examined s =
+    let w = elementsWalk s (elementsPlace s) (length s) in
+    ifEq (openingFault s) done
+    (record { number = walkNumber w; walk = w })
+    (record { number = openingFault s; walk = blankWalk })
+
+-- reading: the number, and the record or, on a refusal, the blank one
+unfoldable pub readFrame : List ℕ → ReadAnswer
+readFrame s =
+    ifEq (examined s .number) done
+    (record { number = done; beacon = decoded s (examined s .walk) })
+    (record { number = examined s .number; beacon = blankBeacon })

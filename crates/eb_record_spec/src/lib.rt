@@ -1,0 +1,124 @@
+// The beacon record: what an Enhanced Beacon says, field by field in the order on air, and the numbers of refusals.
+// Fields are wide enough to hold values outside their limits, so that a record that breaks a limit can be given and refused.
+ghost use mathlib.Core.Path.{_≡_};
+ghost use Rattle.eb_record_spec.specs.Record.{blankBeacon, blankJoining, blankLink};
+
+// A source address: short (2 bytes) or extended (8 bytes).
+pub enum Address {
+    Short(u16),
+    Extended(u64),
+}
+
+// The sequence number, which a frame may suppress.
+pub enum SequenceNumber {
+    Absent,
+    Number(u8),
+}
+
+// The synchronization element: the ASN (5 bytes on air) and the join metric.
+pub struct Synchronization {
+    pub asn: u64,
+    pub metric: u8,
+}
+
+// The timeslot element: the template's ID and, where they are there, its twelve timings in microseconds.
+pub struct TimeslotTemplate {
+    pub id: u8,
+    pub timed: bool,
+    pub timings: [u32; 12],
+}
+
+// A link of the slotframe: its timeslot, its channel offset and the byte of its options, kept whole.
+#[repr(C)]
+pub struct Link {
+    pub timeslot: u16,
+    pub offset: u16,
+    pub options: u8,
+}
+
+// The slotframe and link element: the slotframe's handle and size, and its links, of which the first `count` are used.
+pub struct Slotframe {
+    pub handle: u8,
+    pub size: u16,
+    pub count: u8,
+    pub links: [Link; 16],
+}
+
+// Joining information: whether it is there, its R and P flags, its three priorities, the address of the join proxy (there if P is
+// set), and the network ID, of which the first `length` bytes are used.
+pub struct JoiningInformation {
+    pub present: bool,
+    pub router: bool,
+    pub proxied: bool,
+    pub proxy: u8,
+    pub rank: u16,
+    pub pan: u8,
+    pub address: u64,
+    pub length: u8,
+    pub network: [u8; 16],
+}
+
+// The record.
+pub struct Beacon {
+    pub sequence: SequenceNumber,
+    pub pan: u16,
+    pub source: Address,
+    pub synchronization: Synchronization,
+    pub timeslot: TimeslotTemplate,
+    pub hopping: u8,
+    pub slotframe: Slotframe,
+    pub joining: JoiningInformation,
+}
+
+// A link whose numbers are all zero: what stands in the unused places of a slotframe.
+pub fn blank_link() -> Link
+    ensures { λ r. ⌜ r ≡ blankLink ⌝ }
+{
+    Link {
+        timeslot: 0,
+        offset: 0,
+        options: 0,
+    }
+}
+
+// No joining information: what the blank record and a frame without it have.
+pub fn blank_joining() -> JoiningInformation
+    ensures { λ r. ⌜ r ≡ blankJoining ⌝ }
+{
+    JoiningInformation {
+        present: false,
+        router: false,
+        proxied: false,
+        proxy: 0,
+        rank: 0,
+        pan: 0,
+        address: 0,
+        length: 0,
+        network: [0u8; 16],
+    }
+}
+
+// The blank record, which a refused reading gives.
+pub fn blank() -> Beacon
+    ensures { λ r. ⌜ r ≡ blankBeacon ⌝ }
+{
+    Beacon {
+        sequence: SequenceNumber::Absent,
+        pan: 0,
+        source: Address::Short(0),
+        synchronization: Synchronization { asn: 0, metric: 0 },
+        timeslot: TimeslotTemplate {
+            id: 0,
+            timed: false,
+            timings: [0u32; 12],
+        },
+        hopping: 0,
+        slotframe: Slotframe {
+            handle: 0,
+            size: 0,
+            count: 0,
+            links: [blank_link(); 16],
+        },
+        joining: blank_joining(),
+    }
+}

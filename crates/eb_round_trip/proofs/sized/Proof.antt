@@ -1,0 +1,12 @@
+-- `eb_round_trip::sized` meets its contract. Assumes nothing.
+use Rattle.eb_frame_spec.proofs.RangeLaws.{length-mapped}
+use Rattle.eb_round_trip.proofs.RoundTripLaws.{sizes}
+use borrow.Author.Needs.{needs}
+use Rattle.eb_round_trip.proofs.sized.Statement.{statement}
+use Rattle.eb_round_trip.proofs.sized.Tie as tie
+
+returns : tie.Need-returns
+returns c = search (needs, length-mapped, sizes)
+
+pub sized-spec : {M : Type 1} → statement M
+sized-spec = tie.close (tie.spec returns)

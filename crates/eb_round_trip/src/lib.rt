@@ -1,0 +1,38 @@
+// Writing a record and reading back what was written: every record that can be written comes back as itself.
+ghost use mathlib.Core.Path.{_≡_};
+ghost use lib.ListN.{length};
+ghost use Rattle.eb_read_back_spec.specs.ReadBack.{Sized};
+ghost use Rattle.eb_write_spec.specs.Write.{roomAfter};
+ghost use Rattle.eb_round_trip.specs.RoundTrip.{refusedAs, backFrom};
+use eb_read::ReadAnswer;
+use eb_record_spec::Beacon;
+use refusal::DONE;
+
+// A record's arrays have their sizes by their types. The function does nothing; a proof learns it from the call.
+fn sized(b: Beacon)
+    ensures { λ _. ⌜ Sized b ⌝ }
+{}
+
+// What comes back of a record that is not written.
+fn refused(number: u8) -> ReadAnswer
+    ensures { λ r. ⌜ r ≡ refusedAs number ⌝ }
+{
+    ReadAnswer {
+        number,
+        beacon: eb_record_spec::blank(),
+    }
+}
+
+// Writes a record's frame at the start of a lent room, and reads it there.
+pub fn write_and_read(room: &mut [u8], b: Beacon) -> ReadAnswer
+    ensures answer { λ r. ⌜ r ≡ backFrom b (length (now (room .entry))) ⌝ }
+    ensures room { λ _. ⌜ now (room .exit) ≡ roomAfter b (now (room .entry)) ⌝ }
+{
+    let written = eb_write::write(room, b);
+    if written.number != DONE {
+        return refused(written.number);
+    }
+    sized(b);
+    let length = written.length;
+    eb_read::read(&room[..length])
+}

@@ -1,0 +1,27 @@
+-- Writing: the checks in their order, the answer, and what the lent room holds afterwards (docs/RULES.md, Writing). Assumes nothing.
+use Prim.Native.Nat.{ℕ}
+use mathlib.Core.List.{List, _++_}
+use lib.ListN.{length, drop}
+use Rattle.octets_spec.specs.Choice.{ifOn, ifLt, ifEq}
+use Rattle.refusal.specs.Refusal.{done, frameTooLong, outOfLimits, bufferTooShort}
+use Rattle.eb_record_spec.specs.declared.Beacon.{Beacon}
+use Rattle.eb_frame_spec.specs.Frame.{frameOf}
+use Rattle.eb_frame_spec.specs.Limits.{fits}
+use Rattle.eb_write_spec.specs.declared.Written.{Written}
+
+-- the number for a room of this length: the limits first, then the frame's length, then the room's
+unfoldable pub writtenNumber : Beacon → ℕ → ℕ
+writtenNumber b room =
+    ifOn (fits b)
+    (ifLt 125 (length (frameOf b)) frameTooLong
+    (ifLt room (length (frameOf b)) bufferTooShort
+    done))
+    outOfLimits
+
+-- the answer: the number and the frame's length, which is 0 on a refusal
+unfoldable pub writtenIn : Beacon → ℕ → Written
+writtenIn b room = record { number = writtenNumber b room; length = ifEq (writtenNumber b room) done (length (frameOf b)) 0 }
+
+-- the room afterwards: the frame at its start and the rest as it was, or as a whole as it was
+unfoldable pub roomAfter : Beacon → List ℕ → List ℕ
+roomAfter b room = ifEq (writtenNumber b (length room)) done (frameOf b ++ drop (length (frameOf b)) room) room

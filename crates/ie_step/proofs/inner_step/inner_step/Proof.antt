@@ -1,0 +1,27 @@
+-- `ie_step::inner_step::inner_step` meets its contract. Assumes nothing.
+use Rattle.ie_step_spec.proofs.StepLaws.{steps}
+use borrow.Author.Needs.{needs}
+use Rattle.ie_step.proofs.inner_step.inner_step.Statement.{statement}
+use Rattle.ie_step.proofs.inner_step.inner_step.Tie as tie
+
+returns : tie.Need-returns
+returns c = search (needs, steps)
+
+sub-if2 : tie.Need-sub-if2
+sub-if2 c = search needs
+
+returns-2 : tie.Need-returns-2
+returns-2 c = search (needs, steps)
+
+le-requires : tie.Need-le-requires
+le-requires c κs = search needs
+
+inner-word-requires : tie.Need-inner-word-requires
+inner-word-requires c κs = search needs
+
+returns-3 : tie.Need-returns-3
+returns-3 c = search (needs, steps)
+
+pub inner-step-spec : {M : Type 1} → statement M
+inner-step-spec =
+    tie.close (tie.spec returns sub-if2 returns-2 le-requires inner-word-requires returns-3)

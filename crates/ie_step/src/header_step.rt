@@ -1,0 +1,49 @@
+// A step of the header list. A list lies from a place to an end, which is a parameter: nothing here asks how long the slice is.
+ghost use mathlib.Core.Path.{_≡_};
+ghost use Prim.Native.Nat.{_+_, _≤_, _<_};
+ghost use Rattle.ie_step_spec.specs.Header.{headerWord, headerAt, headerWithin};
+use ie_step_spec::HeaderStep;
+use refusal::CUT;
+use refusal::SHAPE;
+
+// The same of the descriptor that was read there.
+fn header_word(at: usize, end: usize, word: u64) -> HeaderStep
+    requires { ⌜ (at + 2 ≤ end) × (word < 65536) ⌝ }
+    ensures { λ r. ⌜ (r ≡ headerWord at end word) × headerWithin r at end ⌝ }
+{
+    let length = (word % 128) as usize;
+    let id = word / 128 % 256;
+    let from = at + 2;
+    if end - from < length {
+        return HeaderStep::Fault(CUT);
+    }
+    if word / 32768 == 1 {
+        return HeaderStep::Fault(SHAPE);
+    }
+    if id == 126 {
+        if length == 0 {
+            return HeaderStep::Payload(from);
+        }
+        return HeaderStep::Fault(SHAPE);
+    }
+    if id == 127 {
+        if length == 0 {
+            return HeaderStep::End;
+        }
+        return HeaderStep::Fault(SHAPE);
+    }
+    HeaderStep::Element(id, from, from + length)
+}
+
+// What stands at a place of the header list.
+pub fn header_step(s: &[u8], at: usize, end: usize) -> HeaderStep
+    ensures { λ r. ⌜ (r ≡ headerAt (now (s .entry)) at end) × headerWithin r at end ⌝ }
+{
+    if end <= at {
+        return HeaderStep::End;
+    }
+    if end - at < 2 {
+        return HeaderStep::Fault(CUT);
+    }
+    header_word(at, end, octets::get::le(s, at, 2))
+}

@@ -1,0 +1,38 @@
+// A step of an MLME group. A group lies from a place to an end, which is a parameter: nothing here asks how long the slice is.
+ghost use mathlib.Core.Path.{_≡_};
+ghost use Prim.Native.Nat.{_+_, _≤_, _<_};
+ghost use Rattle.ie_step_spec.specs.Payload.{innerWord, innerAt, innerWithin};
+use ie_step_spec::InnerStep;
+use refusal::CUT;
+
+fn inner_word(at: usize, end: usize, word: u64) -> InnerStep
+    requires { ⌜ (at + 2 ≤ end) × (word < 65536) ⌝ }
+    ensures { λ r. ⌜ (r ≡ innerWord at end word) × innerWithin r at end ⌝ }
+{
+    let from = at + 2;
+    if word / 32768 == 0 {
+        let short = (word % 256) as usize;
+        if end - from < short {
+            return InnerStep::Fault(CUT);
+        }
+        return InnerStep::Part(word / 256, from, from + short);
+    }
+    let long = (word % 2048) as usize;
+    if end - from < long {
+        return InnerStep::Fault(CUT);
+    }
+    InnerStep::Part(128 + word / 2048 % 16, from, from + long)
+}
+
+// What stands at a place of an MLME group.
+pub fn inner_step(s: &[u8], at: usize, end: usize) -> InnerStep
+    ensures { λ r. ⌜ (r ≡ innerAt (now (s .entry)) at end) × innerWithin r at end ⌝ }
+{
+    if end <= at {
+        return InnerStep::Back;
+    }
+    if end - at < 2 {
+        return InnerStep::Fault(CUT);
+    }
+    inner_word(at, end, octets::get::le(s, at, 2))
+}

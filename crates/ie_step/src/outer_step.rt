@@ -1,0 +1,62 @@
+// A step of the payload list. A list lies from a place to an end, which is a parameter: nothing here asks how long the slice is.
+ghost use mathlib.Core.Path.{_≡_};
+ghost use Prim.Native.Nat.{_+_, _≤_, _<_};
+ghost use Rattle.ie_step_spec.specs.Payload.{groupOf, outerWord, outerAt, outerWithin};
+use ie_step_spec::OuterStep;
+use refusal::CUT;
+use refusal::SHAPE;
+
+// A group of the payload list that is not its end: an MLME group, joining information, or one to be skipped.
+fn group_word(s: &[u8], group: u64, from: usize, to: usize) -> OuterStep
+    requires { ⌜ from ≤ to ⌝ }
+    ensures { λ r. ⌜ (r ≡ groupOf (now (s .entry)) group from to) × outerWithin r from to ⌝ }
+{
+    if group == 1 {
+        return OuterStep::Group(from, to);
+    }
+    if group == 5 {
+        if from == to {
+            return OuterStep::Fault(SHAPE);
+        }
+        if octets::get::byte(s, from) == 2 {
+            return OuterStep::Joining(from + 1, to);
+        }
+        return OuterStep::Skip(to);
+    }
+    OuterStep::Skip(to)
+}
+
+fn outer_word(s: &[u8], at: usize, end: usize, word: u64) -> OuterStep
+    requires { ⌜ (at + 2 ≤ end) × (word < 65536) ⌝ }
+    ensures { λ r. ⌜ (r ≡ outerWord (now (s .entry)) at end word) × outerWithin r (at + 2) end ⌝ }
+{
+    let size = (word % 2048) as usize;
+    let group = word / 2048 % 16;
+    let from = at + 2;
+    if end - from < size {
+        return OuterStep::Fault(CUT);
+    }
+    if word / 32768 == 0 {
+        return OuterStep::Fault(SHAPE);
+    }
+    if group == 15 {
+        if size == 0 {
+            return OuterStep::End;
+        }
+        return OuterStep::Fault(SHAPE);
+    }
+    group_word(s, group, from, from + size)
+}
+
+// What stands at a place of the payload list.
+pub fn outer_step(s: &[u8], at: usize, end: usize) -> OuterStep
+    ensures { λ r. ⌜ (r ≡ outerAt (now (s .entry)) at end) × outerWithin r (at + 2) end ⌝ }
+{
+    if end <= at {
+        return OuterStep::End;
+    }
+    if end - at < 2 {
+        return OuterStep::Fault(CUT);
+    }
+    outer_word(s, at, end, octets::get::le(s, at, 2))
+}

@@ -1,0 +1,32 @@
+-- The header list: what stands at a place of it (docs/RULES.md, Header elements). Assumes nothing.
+use Prim.Native.Nat.{ℕ, _+_, _-_, _/_, _%_, _<_, _≤_}
+use mathlib.Core.Path.{_≡_}
+use mathlib.Core.List.{List}
+use Rattle.octets_spec.specs.Choice.{ifLt, ifEq}
+use Rattle.octets_spec.specs.Number.{leAt}
+use Rattle.refusal.specs.Refusal.{cut, shape}
+use Rattle.ie_step_spec.specs.declared.HeaderStep.{HeaderStep}
+use Rattle.ie_step_spec.specs.declared.HeaderStep.the-variants.{End, Payload, Element, Fault}
+
+-- a descriptor: bits 0-6 length, 7-14 ID, 15 zero. First the length must fit (2), then bit 15 be zero (6). ID 0x7E ends the list and
+-- payload elements follow, ID 0x7F ends it with none following; either with a length is 6. Others are elements
+unfoldable pub headerWord : ℕ → ℕ → ℕ → HeaderStep
+headerWord at end word =
+    let size : ℕ = word % 128 in
+    let id : ℕ = word / 128 % 256 in
+    ifLt (end - (at + 2)) size (Fault cut)
+    (ifEq (word / 32768) 1 (Fault shape)
+    (ifEq id 126 (ifEq size 0 (Payload (at + 2)) (Fault shape))
+    (ifEq id 127 (ifEq size 0 End (Fault shape))
+    (Element id (at + 2) (at + 2 + size)))))
+
+-- at the end of the bytes the list ends; one byte left over is a cut descriptor (2)
+unfoldable pub headerAt : List ℕ → ℕ → ℕ → HeaderStep
+headerAt s at end = ifLt at end (ifLt (end - at) 2 (Fault cut) (headerWord at end (leAt 2 s at))) End
+
+-- where a step leads lies behind it and before the end
+abbrev pub headerWithin : HeaderStep → ℕ → ℕ → Type 0
+headerWithin End at end = Unit
+headerWithin (Payload from) at end = (at < from) × (from ≤ end)
+headerWithin (Element id from to) at end = (at < from) × (from ≤ to) × (to ≤ end)
+headerWithin (Fault number) at end = Unit

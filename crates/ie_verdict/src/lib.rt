@@ -1,0 +1,104 @@
+// Whether a known element is as it should be: for each element a row of tests on plain numbers, in the order of the rules. `seen` is
+// the place of an element of that kind that was taken before, and 0 if there was none: no element starts at 0.
+ghost use mathlib.Core.Path.{_≡_};
+ghost use Prim.Native.Nat.{_<_};
+ghost use Rattle.ie_verdict_spec.specs.Verdict.{onceOnly, syncFault, timeslotFault, hoppingFault, joiningFault, partFault};
+use ie_verdict_spec::Seen;
+use refusal::DONE;
+use refusal::MISSING_OR_TWICE;
+use refusal::OUT_OF_LIMITS;
+use refusal::SHAPE;
+
+pub mod slotframe_fault;
+
+fn twice(seen: usize) -> u8
+    ensures { λ r. ⌜ r ≡ onceOnly seen ⌝ }
+{
+    if seen == 0 {
+        return DONE;
+    }
+    MISSING_OR_TWICE
+}
+
+fn sync_fault(length: usize, seen: usize) -> u8
+    ensures { λ r. ⌜ r ≡ syncFault length seen ⌝ }
+{
+    if length == 6 {
+        return twice(seen);
+    }
+    SHAPE
+}
+
+fn timeslot_fault(length: usize, seen: usize, id: u64) -> u8
+    ensures { λ r. ⌜ r ≡ timeslotFault length seen id ⌝ }
+{
+    if length == 25 {
+        return twice(seen);
+    }
+    if length == 27 {
+        return twice(seen);
+    }
+    if length != 1 {
+        return SHAPE;
+    }
+    if seen != 0 {
+        return MISSING_OR_TWICE;
+    }
+    if id != 0 {
+        return OUT_OF_LIMITS;
+    }
+    DONE
+}
+
+fn hopping_fault(length: usize, seen: usize) -> u8
+    ensures { λ r. ⌜ r ≡ hoppingFault length seen ⌝ }
+{
+    if length == 0 {
+        return SHAPE;
+    }
+    if seen != 0 {
+        return MISSING_OR_TWICE;
+    }
+    if 1 < length {
+        return OUT_OF_LIMITS;
+    }
+    DONE
+}
+
+fn joining_fault(length: usize, seen: usize, proxied: u64) -> u8
+    requires { ⌜ proxied < 2 ⌝ }
+    ensures { λ r. ⌜ r ≡ joiningFault length seen proxied ⌝ }
+{
+    let fixed = 4 + 8 * proxied as usize;
+    if length < fixed {
+        return SHAPE;
+    }
+    if fixed + 16 < length {
+        return SHAPE;
+    }
+    twice(seen)
+}
+
+// The fault of an element of some kind that lies from a place to another, and 0 if it has none; an unknown kind has none. Kinds: a
+// short sub-element's ID, 128 and a long one's, 256 and the subtype of an IETF group.
+pub fn part_fault(s: &[u8], kind: u64, from: usize, to: usize, seen: Seen) -> u8
+    ensures { λ r. ⌜ r ≡ partFault (now (s .entry)) kind from to seen ⌝ }
+{
+    let length = octets::span(from, to);
+    if kind == 26 {
+        return sync_fault(length, seen.synchronization);
+    }
+    if kind == 28 {
+        return timeslot_fault(length, seen.timeslot, octets::get::byte(s, from));
+    }
+    if kind == 137 {
+        return hopping_fault(length, seen.hopping);
+    }
+    if kind == 27 {
+        return crate::slotframe_fault::slotframe_fault(s, from, to, seen.slotframe);
+    }
+    if kind == 258 {
+        return joining_fault(length, seen.joining, octets::get::byte(s, from) / 64 % 2);
+    }
+    DONE
+}

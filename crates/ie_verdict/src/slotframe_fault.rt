@@ -1,0 +1,87 @@
+// Whether a slotframe and link element is as it should be.
+ghost use mathlib.Core.Path.{_≡_};
+ghost use Prim.Native.Nat.{_+_, _-_, _*_, _<_, _^_};
+ghost use Rattle.ie_verdict_spec.specs.Verdict.{slotframeShape, slotframeLimits, timeslotsFit, slotframeFaultAt};
+use refusal::DONE;
+use refusal::MISSING_OR_TWICE;
+use refusal::OUT_OF_LIMITS;
+use refusal::SHAPE;
+
+// The shape of a slotframe and link element, with its own order: too short, the count, the length.
+fn slotframe_shape(length: usize, count: u64, links: usize) -> u8
+    requires { ⌜ links < 256 ⌝ }
+    ensures { λ r. ⌜ r ≡ slotframeShape length count links ⌝ }
+{
+    if length < 5 {
+        return SHAPE;
+    }
+    if count != 1 {
+        return OUT_OF_LIMITS;
+    }
+    if length != 5 + 5 * links {
+        return SHAPE;
+    }
+    DONE
+}
+
+fn slotframe_limits(size: u64, links: usize, below: bool) -> u8
+    ensures { λ r. ⌜ r ≡ slotframeLimits size links below ⌝ }
+{
+    if size == 0 {
+        return OUT_OF_LIMITS;
+    }
+    if links == 0 {
+        return OUT_OF_LIMITS;
+    }
+    if 16 < links {
+        return OUT_OF_LIMITS;
+    }
+    if below {
+        return DONE;
+    }
+    OUT_OF_LIMITS
+}
+
+fn timeslots_fit(s: &[u8], at: usize, n: usize, size: u64) -> bool
+    requires { ⌜ (at + 5 * n < 2 ^ 64) × (n < 256) ⌝ }
+    ensures { λ r. ⌜ r ≡ timeslotsFit (now (s .entry)) at n size ⌝ }
+{
+    let mut place = at;
+    let mut left = n;
+    while 0 < left {
+        if size <= octets::get::le(s, place, 2) {
+            return false;
+        }
+        place += 5;
+        left -= 1;
+    }
+    true
+}
+
+// A slotframe and link element whose bytes start at `from`.
+fn slotframe_at(s: &[u8], from: usize, length: usize, seen: usize) -> u8
+    requires { ⌜ from + length < 2 ^ 64 ⌝ }
+    ensures { λ r. ⌜ r ≡ slotframeFaultAt (now (s .entry)) from length seen ⌝ }
+{
+    if length < 5 {
+        return SHAPE;
+    }
+    let links = octets::get::byte(s, from + 4) as usize;
+    let fault = slotframe_shape(length, octets::get::byte(s, from), links);
+    if fault != DONE {
+        return fault;
+    }
+    if seen != 0 {
+        return MISSING_OR_TWICE;
+    }
+    let size = octets::get::le(s, from + 2, 2);
+    slotframe_limits(size, links, timeslots_fit(s, from + 5, links, size))
+}
+
+// The fault of a slotframe and link element that lies from a place to another, and 0 if it has none. `seen` is the place of one that was
+// taken before, and 0 if there was none.
+pub fn slotframe_fault(s: &[u8], from: usize, to: usize, seen: usize) -> u8
+    ensures { λ r. ⌜ r ≡ slotframeFaultAt (now (s .entry)) from (to - from) seen ⌝ }
+{
+    slotframe_at(s, from, octets::span(from, to), seen)
+}

@@ -1,0 +1,45 @@
+// The walk over the header list: it counts its elements and finds where the payload list begins.
+ghost use mathlib.Core.Path.{_≡_};
+ghost use Rattle.ie_walk_spec.specs.Walk.{headerList};
+use ie_step_spec::HeaderStep;
+use ie_walk_spec::Headed;
+
+// The header list from a place to an end.
+pub fn header_list(s: &[u8], at: usize, end: usize) -> Headed
+    ensures { λ r. ⌜ r ≡ headerList (now (s .entry)) at end ⌝ }
+{
+    let mut i = at;
+    let mut skipped = 0;
+    loop {
+        match ie_step::header_step::header_step(s, i, end) {
+            HeaderStep::End => {
+                return Headed {
+                    fault: 0,
+                    faulty: 0,
+                    skipped,
+                    payload: 0,
+                };
+            }
+            HeaderStep::Payload(from) => {
+                return Headed {
+                    fault: 0,
+                    faulty: 0,
+                    skipped,
+                    payload: from,
+                };
+            }
+            HeaderStep::Element(_, _, to) => {
+                skipped = crate::one_more(skipped);
+                i = to;
+            }
+            HeaderStep::Fault(number) => {
+                return Headed {
+                    fault: number as usize,
+                    faulty: i,
+                    skipped,
+                    payload: 0,
+                };
+            }
+        }
+    }
+}

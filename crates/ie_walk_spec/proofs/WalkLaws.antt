@@ -1,0 +1,79 @@
+-- The laws of the walk, in the shape in which the code meets them. Assumes nothing.
+use Prim.Native.Nat.{ℕ, zero, suc, _+_, _-_, _*_, _<_, _≤_}
+use mathlib.Core.Path.{_≡_, refl, sym, _∙_}
+use mathlib.Core.List.{List}
+use native.Mathlib.Omega.{arith}
+use native.Mathlib.Nat.{not-suc-le-zero}
+use borrow.Author.Tests.{ne-eqb}
+use Rattle.octets_spec.specs.Choice.{ifEq}
+use Rattle.octets_spec.proofs.ChoiceLaws.{if-eq, if-ne, choices}
+use Rattle.ie_verdict_spec.specs.Verdict.{partFault}
+use Rattle.ie_verdict_spec.specs.declared.Seen.{Seen}
+use Rattle.ie_step_spec.specs.Header.{headerAt, headerWithin}
+use Rattle.ie_step_spec.specs.Payload.{outerAt, outerWithin, innerAt, innerWithin}
+use Rattle.ie_step_spec.specs.declared.HeaderStep.{HeaderStep}
+use Rattle.ie_step_spec.specs.declared.HeaderStep.the-variants as header
+use Rattle.ie_step_spec.specs.declared.OuterStep.{OuterStep}
+use Rattle.ie_step_spec.specs.declared.OuterStep.the-variants as outer
+use Rattle.ie_step_spec.specs.declared.InnerStep.{InnerStep}
+use Rattle.ie_step_spec.specs.declared.InnerStep.the-variants as inner
+use Rattle.ie_walk_spec.specs.Walk.{bump, seenOf, skipOne, taken, stopped, partTaken, headerGo, headerList, outerGo, groupGo, OuterIs, GroupIs, payloadList}
+use Rattle.ie_walk_spec.specs.declared.Walk.{Walk}
+use Rattle.ie_walk_spec.specs.declared.Headed.{Headed}
+
+-- ---- notes
+module _ (w : Walk) where
+  pub seens : record { synchronization = w .synchronization; timeslot = w .timeslot; hopping = w .hopping; slotframe = w .slotframe; joining = w .joining } ≡ seenOf w
+  unfolding seenOf
+  seens = refl
+
+  pub skips : (n : ℕ) → n ≡ bump (w .skipped)
+      → record { fault = w .fault; faulty = w .faulty; skipped = n; synchronization = w .synchronization; timeslot = w .timeslot; timeslotend = w .timeslotend; hopping = w .hopping; slotframe = w .slotframe; joining = w .joining; joiningend = w .joiningend } ≡ skipOne w
+  unfolding skipOne
+  skips n e = rw e
+
+  pub stops : (fault at : ℕ)
+      → record { fault = fault; faulty = at; skipped = w .skipped; synchronization = w .synchronization; timeslot = w .timeslot; timeslotend = w .timeslotend; hopping = w .hopping; slotframe = w .slotframe; joining = w .joining; joiningend = w .joiningend } ≡ stopped w fault at
+  unfolding stopped
+  stops fault at = refl
+
+  module _ (kind from to : ℕ) where
+    pub takes-sync : kind ≡ 26
+        → record { fault = w .fault; faulty = w .faulty; skipped = w .skipped; synchronization = from; timeslot = w .timeslot; timeslotend = w .timeslotend; hopping = w .hopping; slotframe = w .slotframe; joining = w .joining; joiningend = w .joiningend } ≡ taken w kind from to
+    unfolding taken ifEq
+    takes-sync k = rw k
+
+    pub takes-timeslot : kind ≡ 28
+        → record { fault = w .fault; faulty = w .faulty; skipped = w .skipped; synchronization = w .synchronization; timeslot = from; timeslotend = to; hopping = w .hopping; slotframe = w .slotframe; joining = w .joining; joiningend = w .joiningend } ≡ taken w kind from to
+    unfolding taken ifEq
+    takes-timeslot k = rw k
+
+    pub takes-hopping : kind ≡ 137
+        → record { fault = w .fault; faulty = w .faulty; skipped = w .skipped; synchronization = w .synchronization; timeslot = w .timeslot; timeslotend = w .timeslotend; hopping = from; slotframe = w .slotframe; joining = w .joining; joiningend = w .joiningend } ≡ taken w kind from to
+    unfolding taken ifEq
+    takes-hopping k = rw k
+
+    pub takes-slotframe : kind ≡ 27
+        → record { fault = w .fault; faulty = w .faulty; skipped = w .skipped; synchronization = w .synchronization; timeslot = w .timeslot; timeslotend = w .timeslotend; hopping = w .hopping; slotframe = from; joining = w .joining; joiningend = w .joiningend } ≡ taken w kind from to
+    unfolding taken ifEq
+    takes-slotframe k = rw k
+
+    pub takes-joining : kind ≡ 258
+        → record { fault = w .fault; faulty = w .faulty; skipped = w .skipped; synchronization = w .synchronization; timeslot = w .timeslot; timeslotend = w .timeslotend; hopping = w .hopping; slotframe = w .slotframe; joining = from; joiningend = to } ≡ taken w kind from to
+    unfolding taken ifEq
+    takes-joining k = rw k
+
+    pub takes-none : (r : Walk) → (kind ≡ 26 → ⊥) → (kind ≡ 28 → ⊥) → (kind ≡ 137 → ⊥) → (kind ≡ 27 → ⊥) → (kind ≡ 258 → ⊥) → r ≡ skipOne w → r ≡ taken w kind from to
+    unfolding taken ifEq skipOne
+    takes-none r a b c d e h = h ∙ simp (ne-eqb kind 26 a, ne-eqb kind 28 b, ne-eqb kind 137 c, ne-eqb kind 27 d, ne-eqb kind 258 e)
+
+  module _ (s : List ℕ) (kind from to at : ℕ) (r : Walk) (fault : ℕ) (seen : Seen) (x : seen ≡ seenOf w) (f : fault ≡ partFault s kind from to seen) where
+    pub part-good : fault ≡ 0 → r ≡ taken w kind from to → r ≡ partTaken s w kind from to at
+    unfolding partTaken
+    part-good good e = rw (← x, ← f) (if-eq _ _ fault 0 good e)
+
+    pub part-bad : (fault ≡ 0 → ⊥) → r ≡ stopped w fault at → r ≡ partTaken s w kind from to at
+    unfolding partTaken
+    part-bad bad e = rw (← x, ← f) (if-ne _ _ fault 0 bad e)
+
+pub ruleset notes = (choices, seens, skips, stops, takes-sync, takes-timeslot, takes-hopping, takes-slotframe, takes-joining, takes-none, part-good, part-bad)

@@ -1,3 +1,0 @@
-pub mod LinkLaws
-pub mod ReadLaws
-pub mod CheckLaws

@@ -1,3 +1,0 @@
-pub mod Claimed
-pub mod EqualLaws
-pub mod ReadingLaws

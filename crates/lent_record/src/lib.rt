@@ -1,1 +1,0 @@
-// The record that lent numbers are (specs/Record.antt); `lent_reading` reads it and compares.

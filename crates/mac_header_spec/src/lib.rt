@@ -1,0 +1,21 @@
+// What stands before a frame's elements: the frame control word and where the fixed fields are.
+
+// The parts of a frame control word that matter, each as a number. Modes of addresses: 2 short, 3 extended.
+pub struct Control {
+    pub kind: u64,
+    pub security: u64,
+    pub compression: u64,
+    pub suppressed: u64,
+    pub elements: u64,
+    pub destination: u64,
+    pub version: u64,
+    pub source: u64,
+}
+
+// Where the fixed fields start, and where the elements start behind them. The sequence number, if any, stands at 2.
+pub struct FieldPlaces {
+    pub pan: usize,
+    pub destination: usize,
+    pub source: usize,
+    pub elements: usize,
+}

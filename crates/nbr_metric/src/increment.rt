@@ -1,0 +1,34 @@
+// The increment of a neighbour: what a link adds to the rank (docs/RULES.md, Neighbours).
+ghost use mathlib.Core.Path.{_≡_};
+ghost use Prim.Native.Nat.{_-_, _<_, _≤_, _^_};
+ghost use Rattle.nbr_metric_spec.specs.Metric.{IncrementIsCeiling, IsIncrement, increment as incrementOf};
+
+// A counter at the width in which it is multiplied.
+fn wide(x: u16) -> u32
+    ensures { λ r. ⌜ r ≡ x ⌝ }
+{
+    x as u32
+}
+
+// a - b, or 0 where b is the greater.
+pub fn minus(a: u32, b: u32) -> u32
+    ensures { λ r. ⌜ r ≡ a - b ⌝ }
+{
+    if a < b { 0 } else { a - b }
+}
+
+// The increment of a neighbour with so many attempts and acknowledged ones: the smallest whole number not below
+// 256·(3t - 2a)/a, and 0 where a is 0.
+pub fn increment(attempts: u16, acked: u16) -> u32
+    ensures answer { λ r. ⌜ r ≡ incrementOf attempts acked ⌝ }
+    ensures smallest { λ r. ⌜ (1 ≤ acked → IsIncrement attempts acked r) ⌝ }
+    ensures ceiling { λ _. ⌜ IncrementIsCeiling ⌝ }
+    ensures bound { λ r. ⌜ r < 2 ^ 29 ⌝ }
+{
+    if acked == 0 {
+        return 0;
+    }
+    let t = wide(attempts);
+    let a = wide(acked);
+    (256 * minus(3 * t, 2 * a) + (a - 1)) / a
+}

@@ -1,0 +1,32 @@
+// The join metric that a node puts in its beacons (docs/RULES.md, Neighbours).
+use refusal::OUT_OF_LIMITS;
+ghost use mathlib.Core.Path.{_≡_};
+ghost use Rattle.nbr_metric.specs.JoinMetric.{joinMetric};
+
+// A join metric with the call's number; 0 where it is refused.
+pub struct JoinAnswer {
+    pub number: u8,
+    pub metric: u8,
+}
+
+// The join metric that a node of this rank puts in its beacons; a rank outside 256 to 65534 is refused with 8.
+pub fn join_metric(rank: u16) -> JoinAnswer
+    ensures { λ r. ⌜ r ≡ joinMetric rank ⌝ }
+{
+    if rank < 256 {
+        return JoinAnswer {
+            number: OUT_OF_LIMITS,
+            metric: 0,
+        };
+    }
+    if 65534 < rank {
+        return JoinAnswer {
+            number: OUT_OF_LIMITS,
+            metric: 0,
+        };
+    }
+    JoinAnswer {
+        number: 0,
+        metric: (rank / 256 - 1) as u8,
+    }
+}

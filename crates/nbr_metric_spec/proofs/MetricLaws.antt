@@ -1,0 +1,121 @@
+-- The laws of the metric: each way out of its functions, as the code meets it (the rulesets at the end), and what the crates above rest on
+-- (`cost-above-rank`, `cost-from`, `cost-to`): nothing there depends on the increment's form. Assumes nothing.
+use Prim.Native.Nat.{ℕ, suc, _+_, _*_, _-_, _/_, _<_, _≤_}
+use native.Mathlib.Nat.{lt-div-mul-add, div-lt-iff-lt-mul, div-le-self, lt-of-mul-lt-mul-right, suc-mul}
+use native.Mathlib.Omega.{arith}
+use mathlib.Core.Path.{_≡_, refl}
+use mathlib.Core.Bool.{Bool, true, false, _&&_}
+use lib.Dec.{leb}
+use borrow.Author.Tests.{le-leb, lt-leb, leb-true}
+use Rattle.octets_spec.proofs.ChoiceLaws.{if-eq, if-ne}
+use Rattle.nbr_metric_spec.specs.declared.Place.{Place}
+use Rattle.nbr_metric_spec.specs.Metric.{blank, IsIncrement, IncrementIsCeiling, increment, pathCost, eligible}
+
+-- ---- the increment
+module _ (t a : ℕ) where
+  pub increment-none : a ≡ 0 → 0 ≡ increment t a
+  unfolding increment
+  increment-none e = if-eq 0 ((256 * (3 * t - 2 * a) + (a - 1)) / a) a 0 e refl
+
+  pub increment-some : (u v m : ℕ) → (a ≡ 0 → ⊥) → u ≡ t → v ≡ a → m ≡ 3 * u - 2 * v → (256 * m + (v - 1)) / v ≡ increment t a
+  unfolding increment
+  increment-some u v m h e f g =
+      if-ne 0 ((256 * (3 * t - 2 * a) + (a - 1)) / a) a 0 h (rw (g, e, f))
+
+  above : 1 ≤ a → 256 * (3 * t - 2 * a) + (a - 1) < increment t a * a + a
+  above h = rw (← increment-some t a (3 * t - 2 * a) (λ e. omega arith) refl refl refl) (lt-div-mul-add h)
+
+  pub is-increment : (n : ℕ) → n ≡ increment t a → 1 ≤ a → IsIncrement t a n
+  unfolding IsIncrement
+  is-increment n e h =
+      rw e (
+        omega (arith, above h),
+        λ m l.
+            let k : 256 * (3 * t - 2 * a) + (a - 1) < suc m * a = rw (suc-mul m a) (omega arith) in
+            let d : (256 * (3 * t - 2 * a) + (a - 1)) / a < suc m = div-lt-iff-lt-mul h .1 k in
+            let s : (256 * (3 * t - 2 * a) + (a - 1)) / a ≡ increment t a = increment-some t a (3 * t - 2 * a) (λ e. omega arith) refl refl refl in
+            omega arith,
+      )
+
+-- a quotient is no greater than what is divided
+pub quotient-below : (n k b : ℕ) → n < b → n / k < b
+quotient-below n k b h = omega (arith, div-le-self n k)
+
+pub increment-is-ceiling : IncrementIsCeiling
+increment-is-ceiling t a h = is-increment t a (increment t a) refl h
+
+-- ---- path cost and eligibility
+module _ (p : Place) where
+  pub path-cost-is : (m n : ℕ) → m ≡ p .rank → n ≡ increment (p .attempts) (p .acked) → m + n ≡ pathCost p
+  unfolding pathCost
+  path-cost-is m n e f = rw (e, f)
+
+  pub not-used : p .used ≡ false → false ≡ eligible p
+  unfolding eligible
+  not-used e = rw e
+
+  pub low-rank : p .used ≡ true → p .rank < 256 → false ≡ eligible p
+  unfolding eligible
+  low-rank u h = simp (u, lt-leb 256 (p .rank) h)
+
+  pub none-acked : p .used ≡ true → 256 ≤ p .rank → p .acked < 1 → false ≡ eligible p
+  unfolding eligible
+  none-acked u r h = simp (u, le-leb 256 (p .rank) r, lt-leb 1 (p .acked) h)
+
+  module _ (m n : ℕ) (u : p .used ≡ true) (r : 256 ≤ p .rank) (a : 1 ≤ p .acked) (e : m ≡ p .acked) (f : n ≡ p .attempts) where
+    pub poor-link : 11 * m < 3 * n → false ≡ eligible p
+    unfolding eligible
+    poor-link h =
+        let k : 11 * p .acked < 3 * p .attempts = omega arith in
+        simp (u, le-leb 256 (p .rank) r, le-leb 1 (p .acked) a, lt-leb (3 * p .attempts) (11 * p .acked) k)
+
+    pub by-cost : (k : ℕ) → 3 * n ≤ 11 * m → k ≡ pathCost p → leb k 65534 ≡ eligible p
+    unfolding eligible
+    by-cost k h c =
+        let l : 3 * p .attempts ≤ 11 * p .acked = omega arith in
+        simp (c, u, le-leb 256 (p .rank) r, le-leb 1 (p .acked) a, le-leb (3 * p .attempts) (11 * p .acked) l)
+
+-- what a conjunction says of its parts
+pub both : (a b : Bool) → a && b ≡ true → (a ≡ true) × (b ≡ true)
+both true b e = (refl, e)
+both false b e = (e, cc)
+
+-- ---- what eligibility says, for the crates above
+pub blank-not-eligible : eligible blank ≡ false
+unfolding eligible
+blank-not-eligible = refl
+
+module _ (p : Place) (e : eligible p ≡ true) where
+  parts : (p .used ≡ true) × (256 ≤ p .rank) × (1 ≤ p .acked) × (pathCost p ≤ 65534)
+  unfolding eligible
+  parts =
+      let l₁ = both (p .used) (leb 256 (p .rank) && (leb 1 (p .acked) && (leb (3 * p .attempts) (11 * p .acked) && leb (pathCost p) 65534))) e in
+      let l₂ = both (leb 256 (p .rank)) (leb 1 (p .acked) && (leb (3 * p .attempts) (11 * p .acked) && leb (pathCost p) 65534)) (l₁ .1) in
+      let l₃ = both (leb 1 (p .acked)) (leb (3 * p .attempts) (11 * p .acked) && leb (pathCost p) 65534) (l₂ .1) in
+      let l₄ = both (leb (3 * p .attempts) (11 * p .acked)) (leb (pathCost p) 65534) (l₃ .1) in
+      (l₁ .0, leb-true 256 (p .rank) (l₂ .0), leb-true 1 (p .acked) (l₃ .0), leb-true (pathCost p) 65534 (l₄ .1))
+
+  pub eligible-used : p .used ≡ true
+  eligible-used = parts .0
+
+  -- an eligible neighbour's cost is at most 65534
+  pub cost-to : pathCost p ≤ 65534
+  cost-to = parts .3
+
+  module _ (fair : p .acked ≤ p .attempts) where
+    -- and, where no more were acknowledged than attempted, at least its rank and 256
+    pub cost-above-rank : p .rank + 256 ≤ pathCost p
+    unfolding pathCost
+    cost-above-rank =
+        let h : 1 ≤ p .acked = parts .2 in
+        let k : 256 * p .acked < suc (increment (p .attempts) (p .acked)) * p .acked = rw (suc-mul (increment (p .attempts) (p .acked)) (p .acked)) (omega (arith, above (p .attempts) (p .acked) h)) in
+        let l : 256 < suc (increment (p .attempts) (p .acked)) = lt-of-mul-lt-mul-right (p .acked) k in
+        omega arith
+
+    -- so at least 512
+    pub cost-from : 512 ≤ pathCost p
+    cost-from = omega (arith, parts .1, cost-above-rank)
+
+pub ruleset incrementWays = (increment-none, increment-some, is-increment, increment-is-ceiling)
+
+pub ruleset costWays = (path-cost-is, not-used, low-rank, none-acked, poor-link, by-cost)

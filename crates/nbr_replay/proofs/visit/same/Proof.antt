@@ -1,0 +1,50 @@
+-- `nbr_replay::visit::same` meets its contract. Assumes nothing.
+use Rattle.nbr_replay.proofs.VisitLaws.{visitWays}
+use borrow.Author.Needs.{needs}
+use Rattle.nbr_replay.proofs.visit.same.Statement.{statement}
+use Rattle.nbr_replay.proofs.visit.same.Tie as tie
+
+enum-told : tie.Need-enum-told
+enum-told c = search needs
+
+enum-told-2 : tie.Need-enum-told-2
+enum-told-2 c = search needs
+
+enum-told-3 : tie.Need-enum-told-3
+enum-told-3 c = search needs
+
+enum-known-q : tie.Need-enum-known-q
+enum-known-q c = search needs
+
+enum-told-4 : tie.Need-enum-told-4
+enum-told-4 c = search needs
+
+enum-known-p : tie.Need-enum-known-p
+enum-known-p c = search needs
+
+returns : tie.Need-returns
+returns c = search (needs, visitWays)
+
+returns-2 : tie.Need-returns-2
+returns-2 c = search (needs, visitWays)
+
+returns-3 : tie.Need-returns-3
+returns-3 c = search (needs, visitWays)
+
+returns-4 : tie.Need-returns-4
+returns-4 c = search (needs, visitWays)
+
+pub same-spec : {M : Type 1} → statement M
+same-spec =
+    tie.close
+    (tie.spec
+    enum-told
+    enum-told-2
+    enum-told-3
+    enum-known-q
+    enum-told-4
+    enum-known-p
+    returns
+    returns-2
+    returns-3
+    returns-4)

@@ -1,0 +1,38 @@
+-- `nbr_replay::visit::seen` meets its contract. Assumes nothing.
+use Rattle.nbr_replay.proofs.VisitLaws.{visitWays}
+use borrow.Author.Needs.{needs}
+use Rattle.nbr_replay.proofs.visit.seen.Statement.{statement}
+use Rattle.nbr_replay.proofs.visit.seen.Tie as tie
+
+held-requires : tie.Need-held-requires
+held-requires c κs = search needs
+
+change-requires : tie.Need-change-requires
+change-requires c κs = search needs
+
+path-cost-requires : tie.Need-path-cost-requires
+path-cost-requires c κs = search needs
+
+held-requires-2 : tie.Need-held-requires-2
+held-requires-2 c κs = search needs
+
+path-cost-requires-2 : tie.Need-path-cost-requires-2
+path-cost-requires-2 c κs = search needs
+
+eligible-requires : tie.Need-eligible-requires
+eligible-requires c κs = search needs
+
+returns : tie.Need-returns
+returns c = search (needs, visitWays)
+
+pub seen-spec : {M : Type 1} → statement M
+seen-spec =
+    tie.close
+    (tie.spec
+    held-requires
+    change-requires
+    path-cost-requires
+    held-requires-2
+    path-cost-requires-2
+    eligible-requires
+    returns)

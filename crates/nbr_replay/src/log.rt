@@ -1,0 +1,46 @@
+// A log of calls as four lent lists, one row for each call (specs/Log.antt): which logs are refused.
+ghost use mathlib.Core.Path.{_≡_};
+ghost use Rattle.nbr_replay.specs.Log.{equallyLong, log, someOver, unfitLog};
+
+// Whether some byte is over m.
+fn any_over(s: &[u8], m: u8) -> bool
+    ensures { λ r. ⌜ r ≡ someOver m (now (s .entry)) ⌝ }
+{
+    let mut i = 0;
+    while i < s.len() {
+        if m < s[i] {
+            return true;
+        }
+        i += 1;
+    }
+    false
+}
+
+// Whether the four lists are equally long.
+fn are_equally_long(kinds: &[u8], ids: &[u64], values: &[u16], flags: &[u8]) -> bool
+    ensures { λ r. ⌜ r ≡ equallyLong (log (now (kinds .entry)) (now (ids .entry)) (now (values .entry)) (now (flags .entry))) ⌝ }
+{
+    if ids.len() == kinds.len() {
+        if values.len() == kinds.len() {
+            return flags.len() == kinds.len();
+        }
+        return false;
+    }
+    false
+}
+
+// Whether a log is refused: its lists are not equally long, it has over 65535 rows, a kind over 3 or a flag over 1.
+pub fn is_unfit(kinds: &[u8], ids: &[u64], values: &[u16], flags: &[u8]) -> bool
+    ensures { λ r. ⌜ r ≡ unfitLog (log (now (kinds .entry)) (now (ids .entry)) (now (values .entry)) (now (flags .entry))) ⌝ }
+{
+    if are_equally_long(kinds, ids, values, flags) {
+        if 65535 < kinds.len() {
+            return true;
+        }
+        if any_over(kinds, 3) {
+            return true;
+        }
+        return any_over(flags, 1);
+    }
+    true
+}

@@ -1,0 +1,42 @@
+-- The bound cannot be lowered: lists that meet it, run by the checker. Assumes nothing.
+use Prim.Native.Nat.{ℕ, zero, suc, _-_}
+use mathlib.Core.Path.{refl}
+use mathlib.Core.Bool.{true}
+use mathlib.Core.List.{List, [], _∷_}
+use lib.ListN.{replicate}
+use lib.Dec.{lit<}
+use Rattle.octets_spec.specs.Choice.{ifEq, ifLt, ifOn}
+use Rattle.nbr_metric_spec.specs.Metric.{blank, eligible, increment, pathCost}
+use Rattle.nbr_places_spec.specs.Places.{bestOf, better, changeFirst, firstOf, free, named, nearer, nonzero, some, twice, unfit}
+use Rattle.nbr_table_spec.specs.declared.Parent.the-variants.{Held}
+use Rattle.nbr_table_spec.specs.declared.Table.{Table}
+use Rattle.nbr_table_spec.specs.Calls.{advertised, parentMissing, broken, chosen, evaluated, heldPlace, sameParent}
+use Rattle.nbr_stability_spec.specs.Stability.{BoundIsMet, Call, Reaches101, after, any, applies, changes, eachEligible, evaluations, firstCost, lastCost, rises}
+use Rattle.nbr_stability_spec.specs.Stability.Call.{Advertise, Evaluate}
+
+-- neighbours 1 and 2 with one attempt, acknowledged, so that their costs are their ranks and 256; neighbour 1 is held
+abbrev pair : ℕ → ℕ → Table
+pair r s =
+    record {
+      places = record { id = 1; rank = r; attempts = 1; acked = 1; used = true } ∷ record { id = 2; rank = s; attempts = 1; acked = 1; used = true } ∷ replicate 30 blank;
+      parent = Held 1;
+    }
+
+-- the two neighbours in turn come 641 below the held one
+abbrev descent : ℕ → ℕ → ℕ → ℕ → List Call
+descent zero rank a b = []
+descent (suc k) rank a b = Advertise a (rank - 641) ∷ Evaluate ∷ descent k (rank - 641) b a
+
+-- 1408 held, 767 best: changed, then the new parent's cost rises by 100; and a descent from 65534 to 793
+both-run : BoundIsMet × Reaches101
+unfolding evaluations after applies any eachEligible changes rises firstCost lastCost sameParent advertised evaluated chosen broken parentMissing heldPlace bestOf better nearer changeFirst firstOf free named nonzero some twice unfit eligible pathCost increment ifEq ifLt ifOn
+both-run = (
+  (pair 1152 511, Evaluate ∷ Advertise 2 611 ∷ Evaluate ∷ [], refl, (lit< tt, lit< tt, refl)),
+  (pair 65278 65278, descent 101 65278 2 1, refl, refl, refl),
+)
+
+pub bound-is-met : BoundIsMet
+bound-is-met = both-run .0
+
+pub reaches-101 : Reaches101
+reaches-101 = both-run .1

@@ -1,0 +1,63 @@
+// The decision from what is known of a whole list of links.
+ghost use mathlib.Core.Path.{_≡_};
+ghost use Rattle.slot_spec.specs.Slot.{limits, transmitOn, listenOn, action};
+ghost use Rattle.slot_spec.specs.Scan.{foundOf, concluded};
+use slot_spec::Decision;
+use slot_spec::Found;
+use slot_spec::Scan;
+use slot_spec::Search;
+
+fn result(search: Search) -> Found
+    ensures { λ r. ⌜ r ≡ foundOf search ⌝ }
+{
+    if search.found {
+        return Found::At(search.place, search.offset);
+    }
+    Found::Nothing
+}
+
+fn listen(asn: u64, found: Found) -> Decision
+    ensures { λ r. ⌜ r ≡ listenOn asn found ⌝ }
+{
+    match found {
+        Found::At(place, offset) => Decision::Listen(place, hopping::channel(asn, offset)),
+        Found::Nothing => Decision::Sleep,
+    }
+}
+
+fn transmit(asn: u64, found: Found, other: Decision) -> Decision
+    ensures { λ r. ⌜ r ≡ transmitOn asn found other ⌝ }
+{
+    match found {
+        Found::At(place, offset) => Decision::Transmit(place, hopping::channel(asn, offset)),
+        Found::Nothing => other,
+    }
+}
+
+// Whether the schedule and the ASN are within their limits.
+fn within(size: u16, count: usize, below: bool, id: u8, asn: u64) -> bool
+    ensures { λ r. ⌜ r ≡ limits size count below id asn ⌝ }
+{
+    (1 <= size) & ((1 <= count) & ((count <= 16) & (below & ((id == 0) & (asn <= 1099511627775)))))
+}
+
+fn act(asn: u64, waits: bool, sends: Found, hears: Found) -> Decision
+    ensures { λ r. ⌜ r ≡ action asn waits sends hears ⌝ }
+{
+    let awaited = listen(asn, hears);
+    if waits {
+        return transmit(asn, sends, awaited);
+    }
+    awaited
+}
+
+pub fn conclude(seen: Scan, count: usize, id: u8, asn: u64, waits: bool) -> Decision
+    ensures { λ r. ⌜ r ≡ concluded seen count id asn waits ⌝ }
+{
+    if within(seen.size, count, seen.below, id, asn) {
+        let sends = seen.transmit;
+        let hears = seen.receive;
+        return act(asn, waits, result(sends), result(hears));
+    }
+    Decision::Refused
+}

@@ -1,0 +1,71 @@
+// One link of a schedule: whether it is active and what for, and what is known of the list with it.
+ghost use mathlib.Core.Path.{_≡_};
+ghost use Rattle.octets_spec.specs.Choice.{ifOn};
+ghost use Rattle.slot_spec.specs.Slot.{isActive, optionBit};
+ghost use Rattle.slot_spec.specs.Scan.{searched, stepped};
+use eb_record_spec::Link;
+use slot_spec::Scan;
+use slot_spec::Search;
+
+fn is_active(slot: u16, link: Link) -> bool
+    ensures { λ r. ⌜ r ≡ isActive slot link ⌝ }
+{
+    link.timeslot == slot
+}
+
+fn may_transmit(link: Link) -> bool
+    ensures { λ r. ⌜ r ≡ optionBit 0 link ⌝ }
+{
+    link.options % 2 == 1
+}
+
+fn may_receive(link: Link) -> bool
+    ensures { λ r. ⌜ r ≡ optionBit 1 link ⌝ }
+{
+    link.options / 2 % 2 == 1
+}
+
+fn pick_place(serves: bool, place: usize, behind: usize) -> usize
+    ensures { λ r. ⌜ r ≡ ifOn serves place behind ⌝ }
+{
+    if serves {
+        return place;
+    }
+    behind
+}
+
+fn pick_offset(serves: bool, offset: u16, behind: u16) -> u16
+    ensures { λ r. ⌜ r ≡ ifOn serves offset behind ⌝ }
+{
+    if serves {
+        return offset;
+    }
+    behind
+}
+
+// This link if it serves, else what was found behind it.
+fn searching(serves: bool, place: usize, offset: u16, behind: Search) -> Search
+    ensures { λ r. ⌜ r ≡ searched serves place offset behind ⌝ }
+{
+    Search {
+        found: serves | behind.found,
+        place: pick_place(serves, place, behind.place),
+        offset: pick_offset(serves, offset, behind.offset),
+    }
+}
+
+// One link more in front of those seen, which stands at this place of the list.
+pub fn step(seen: Scan, link: Link, place: usize) -> Scan
+    ensures { λ r. ⌜ r ≡ stepped seen link place ⌝ }
+{
+    let active = is_active(seen.slot, link);
+    let transmit = seen.transmit;
+    let receive = seen.receive;
+    Scan {
+        size: seen.size,
+        slot: seen.slot,
+        below: (link.timeslot < seen.size) & seen.below,
+        transmit: searching(active & may_transmit(link), place, link.offset, transmit),
+        receive: searching(active & may_receive(link), place, link.offset, receive),
+    }
+}

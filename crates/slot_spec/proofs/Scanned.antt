@@ -1,0 +1,98 @@
+-- What the code finds link by link is what the definition says of the whole list; and what one turn of a loop through the list keeps.
+-- Assumes nothing.
+use Prim.Native.Nat.{ℕ, suc, _-_, _<_, _≤_}
+use mathlib.Core.Path.{_≡_, refl, subst, _∙_}
+use mathlib.Core.Bool.{Bool, true, false}
+use mathlib.Core.List.{List, [], _∷_}
+use native.Mathlib.Nat.{le-refl}
+use native.Mathlib.Omega.{arith}
+use lib.ListN.{length, getD, take, drop, drop-of-length-le}
+use lib.Seq.{drop-cons, getD-take, length-take-le}
+use Rattle.octets_spec.specs.Choice.{ifOn, ifLt}
+use Rattle.octets_spec.proofs.ChoiceLaws.{if-lt, if-ge}
+use Rattle.eb_record_spec.specs.declared.Link.{Link}
+use Rattle.eb_record_spec.specs.Record.{blankLink}
+use Rattle.slot_spec.specs.Slot.{timeslotsBelow, slotOffset, isActive, optionBit, firstActive, decision}
+use Rattle.slot_spec.specs.Scan.{begun, searchOf, searched, foundOf, stepped, concluded}
+use Rattle.slot_spec.specs.declared.Found.{Found}
+use Rattle.slot_spec.specs.declared.Found.the-variants.{Nothing, At}
+use Rattle.slot_spec.specs.declared.Scan.{Scan}
+use Rattle.slot_spec.specs.declared.Decision.{Decision}
+use Rattle.slot_spec.specs.declared.Decision.the-variants.{Refused}
+
+-- what is known of a list whose places count from `place`
+unfoldable pub scanned : Scan → ℕ → List Link → Scan
+scanned start place [] = start
+scanned start place (link ∷ links) = stepped (scanned start (suc place) links) link place
+
+-- what is known of a list, in the words of the definition
+abbrev known : Scan → ℕ → List Link → Scan
+known start place links = record {
+  size = start .size;
+  slot = start .slot;
+  below = timeslotsBelow (start .size) links;
+  transmit = searchOf (firstActive (start .slot) 0 place links);
+  receive = searchOf (firstActive (start .slot) 1 place links);
+}
+
+searched-is : (serves : Bool) (place offset : ℕ) (found : Found) → searched serves place offset (searchOf found) ≡ searchOf (ifOn serves (At place offset) found)
+unfolding searched ifOn
+searched-is true place offset found = refl
+searched-is false place offset found = refl
+
+found-is : (found : Found) → foundOf (searchOf found) ≡ found
+unfolding foundOf ifOn
+found-is Nothing = refl
+found-is (At place offset) = refl
+
+scanned-is : (asn size place : ℕ) (links : List Link) → scanned (begun asn size) place links ≡ known (begun asn size) place links
+unfolding scanned stepped begun firstActive timeslotsBelow
+scanned-is asn size place [] = refl
+scanned-is asn size place (link ∷ links) = rw (scanned-is asn size (suc place) links) (simp searched-is)
+
+decided : (links : List Link) (size id asn : ℕ) (waits : Bool) → concluded (scanned (begun asn size) 0 links) (length links) id asn waits ≡ decision links size id asn waits
+unfolding concluded decision begun
+decided links size id asn waits = rw (scanned-is asn size 0 links) (simp found-is)
+
+-- ---- a loop through a list: what is known of the links from a place on
+module _ (links : List Link) (start : Scan) where
+  pub begin-at-end : start ≡ scanned start (length links) (drop (length links) links)
+  unfolding scanned
+  begin-at-end = rw (drop-of-length-le links (le-refl (length links)))
+
+  in-front : (i : ℕ) (seen next : Scan) → i < length links → seen ≡ scanned start (suc i) (drop (suc i) links) → next ≡ stepped seen (getD links i blankLink) i → next ≡ scanned start i (drop i links)
+  unfolding scanned
+  in-front i seen next within so-far e = rw (drop-cons links i blankLink within) (rw so-far at e)
+
+  pub turn : (i : ℕ) (seen next : Scan) → 0 < i → i ≤ length links → seen ≡ scanned start i (drop i links) → next ≡ stepped seen (getD links (i - 1) blankLink) (i - 1) → next ≡ scanned start (i - 1) (drop (i - 1) links)
+  turn i seen next more within so-far e =
+      let one-less : i ≡ suc (i - 1) = omega arith in
+      in-front (i - 1) seen next (omega arith) (subst (λ (k : ℕ). seen ≡ scanned start k (drop k links)) one-less so-far) e
+
+-- the decision from what a loop through the whole list has left
+pub decides : (links : List Link) (size id asn : ℕ) (waits : Bool) (seen : Scan) (r : Decision) → seen ≡ scanned (begun asn size) 0 links → r ≡ concluded seen (length links) id asn waits
+    → r ≡ decision links size id asn waits
+decides links size id asn waits seen r e f = f ∙ rw e (decided links size id asn waits)
+
+-- ---- the same through the first `count` links of an array
+module _ (links : List Link) (size id asn : ℕ) (waits : Bool) (count : ℕ) where
+  pub listed-over : 16 < count → Refused ≡ ifLt 16 count Refused (decision (take count links) size id asn waits)
+  listed-over over = if-lt _ _ 16 count over refl
+
+  module _ (whole : length links ≡ 16) (within : count ≤ 16) where
+    long : length (take count links) ≡ count
+    long = length-take-le count links (omega arith)
+
+    pub listed-begin : (start : Scan) → start ≡ begun asn size → start ≡ scanned (begun asn size) count (drop count (take count links))
+    listed-begin start e = e ∙ rw long at (begin-at-end (take count links) (begun asn size))
+
+    pub listed-turn : (i : ℕ) (seen next : Scan) → 0 < i → i ≤ count → seen ≡ scanned (begun asn size) i (drop i (take count links))
+        → next ≡ stepped seen (getD links (i - 1) blankLink) (i - 1) → next ≡ scanned (begun asn size) (i - 1) (drop (i - 1) (take count links))
+    listed-turn i seen next more low so-far e =
+        turn (take count links) (begun asn size) i seen next more (omega (arith, long)) so-far (rw (getD-take count links (i - 1) blankLink (omega arith)) e)
+
+    pub listed-end : (i : ℕ) (seen : Scan) (r : Decision) → i ≤ 0 → seen ≡ scanned (begun asn size) i (drop i (take count links))
+        → r ≡ concluded seen count id asn waits → r ≡ ifLt 16 count Refused (decision (take count links) size id asn waits)
+    listed-end i seen r over so-far e =
+        let none : i ≡ 0 = omega arith in
+        if-ge _ _ 16 count within (decides (take count links) size id asn waits seen r (rw none at so-far) (rw long e))

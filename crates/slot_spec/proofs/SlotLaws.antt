@@ -1,0 +1,138 @@
+-- The laws of the slot decision in the shape in which the code meets them: one for each way out of a function, with the results of
+-- its calls as variables. Assumes nothing.
+use Prim.Native.Nat.{ℕ, _<_, _≤_, _-_, _/_, _%_, _^_}
+use mathlib.Core.Path.{_≡_, refl, sym, _∙_}
+use mathlib.Core.Bool.{Bool, true, false, _&&_, _||_}
+use native.Mathlib.Nat.{div-one, mod-lt, pos-of-ne-zero}
+use native.Mathlib.Omega.{arith}
+use mir.Syntax.{w16}
+use mir.Val.{Fits}
+use lib.Dec.{ltb, leb, eqb}
+use Rattle.octets_spec.specs.Choice.{ifOn, ifEq}
+use Rattle.octets_spec.proofs.ChoiceLaws.{if-on, if-off, if-eq, if-ne, choices}
+use Rattle.eb_record_spec.specs.declared.Link.{Link}
+use Rattle.hopping.specs.Hopping.{channelOf}
+use Rattle.slot_spec.specs.Slot.{limits, slotOffset, isActive, optionBit, transmitOn, listenOn, action}
+use Rattle.slot_spec.specs.Scan.{begun, searchOf, searched, foundOf, stepped, concluded}
+use Rattle.slot_spec.specs.Answer.{answerOf}
+use Rattle.slot_spec.specs.declared.Found.{Found}
+use Rattle.slot_spec.specs.declared.Found.the-variants.{Nothing, At}
+use Rattle.slot_spec.specs.declared.Search.{Search}
+use Rattle.slot_spec.specs.declared.Scan.{Scan}
+use Rattle.slot_spec.specs.declared.Decision.{Decision}
+use Rattle.slot_spec.specs.declared.Decision.the-variants.{Refused, Sleep, Transmit, Listen}
+
+-- ---- the slot and a link
+module _ (asn size : ℕ) where
+  pub no-slot : size ≡ 0 → 0 ≡ slotOffset asn size
+  unfolding slotOffset
+  no-slot e = if-eq 0 (asn % size) size 0 e refl
+
+  pub some-slot : (size ≡ 0 → ⊥) → asn % size ≡ slotOffset asn size
+  unfolding slotOffset
+  some-slot n = if-ne 0 (asn % size) size 0 n refl
+
+  pub slot-fits : (size ≡ 0 → ⊥) → size < 2 ^ 16 → Fits w16 (asn % size)
+  slot-fits n small = record { fits = omega (arith, mod-lt asn {m = size} (pos-of-ne-zero n)) }
+
+module _ (link : Link) where
+  pub active : (slot : ℕ) → eqb (link .timeslot) slot ≡ isActive slot link
+  unfolding isActive
+  active slot = refl
+
+  pub transmits : eqb (link .options % 2) 1 ≡ optionBit 0 link
+  unfolding optionBit
+  transmits = rw (div-one (link .options))
+
+  pub receives : eqb (link .options / 2 % 2) 1 ≡ optionBit 1 link
+  unfolding optionBit
+  receives = refl
+
+-- ---- a search
+module _ (serves : Bool) (place offset : ℕ) (behind : Search) where
+  pub searches : (found : Bool) (p o : ℕ) → found ≡ (serves || behind .found) → p ≡ ifOn serves place (behind .place) → o ≡ ifOn serves offset (behind .offset)
+      → record { found = found; place = p; offset = o } ≡ searched serves place offset behind
+  unfolding searched
+  searches found p o e₁ e₂ e₃ = rw (e₁, e₂, e₃)
+
+module _ (search : Search) where
+  pub results : search .found ≡ true → At (search .place) (search .offset) ≡ foundOf search
+  unfolding foundOf
+  results e = if-on _ _ _ e refl
+
+  pub results-none : search .found ≡ false → Nothing ≡ foundOf search
+  unfolding foundOf
+  results-none e = if-off _ _ _ e refl
+
+pub begins : (asn size slot : ℕ) → slot ≡ slotOffset asn size → record { size = size; slot = slot; below = true; transmit = searchOf Nothing; receive = searchOf Nothing } ≡ begun asn size
+unfolding begun
+begins asn size slot e = rw e
+
+pub steps : (seen : Scan) (link : Link) (place : ℕ) (on sends hears below tx rx : Bool) (transmit receive : Search)
+    → on ≡ isActive (seen .slot) link → below ≡ (ltb (link .timeslot) (seen .size) && seen .below)
+    → sends ≡ optionBit 0 link → tx ≡ (on && sends) → transmit ≡ searched tx place (link .offset) (seen .transmit)
+    → hears ≡ optionBit 1 link → rx ≡ (on && hears) → receive ≡ searched rx place (link .offset) (seen .receive)
+    → record { size = seen .size; slot = seen .slot; below = below; transmit = transmit; receive = receive } ≡ stepped seen link place
+unfolding stepped
+steps seen link place on sends hears below tx rx transmit receive e₁ e₂ e₃ e₄ e₅ e₆ e₇ e₈ = rw (e₅, e₈, e₄, e₇, e₃, e₆, e₁, e₂)
+
+-- ---- from what was found to the decision
+module _ (asn : ℕ) where
+  module _ (found : Found) where
+    pub listens : (place offset channel : ℕ) → found ≡ At place offset → channel ≡ channelOf asn offset → Listen place channel ≡ listenOn asn found
+    unfolding listenOn
+    listens place offset channel e f = rw (e, f)
+
+    pub sleeps : found ≡ Nothing → Sleep ≡ listenOn asn found
+    unfolding listenOn
+    sleeps e = rw e
+
+    pub sends : (other : Decision) (place offset channel : ℕ) → found ≡ At place offset → channel ≡ channelOf asn offset → Transmit place channel ≡ transmitOn asn found other
+    unfolding transmitOn
+    sends other place offset channel e f = rw (e, f)
+
+    pub sends-not : (other : Decision) → found ≡ Nothing → other ≡ transmitOn asn found other
+    unfolding transmitOn
+    sends-not other e = rw e
+
+  module _ (waits : Bool) (transmit receive : Found) (awaited : Decision) (e : awaited ≡ listenOn asn receive) where
+    pub acts-waiting : (r : Decision) → waits ≡ true → r ≡ transmitOn asn transmit awaited → r ≡ action asn waits transmit receive
+    unfolding action
+    acts-waiting r w f = if-on _ _ waits w (rw e at f)
+
+    pub acts-idle : waits ≡ false → awaited ≡ action asn waits transmit receive
+    unfolding action
+    acts-idle w = if-off _ _ waits w e
+
+pub checks : (size count : ℕ) (below : Bool) (id asn : ℕ) → leb 1 size && (leb 1 count && (leb count 16 && (below && (eqb id 0 && leb asn 1099511627775)))) ≡ limits size count below id asn
+unfolding limits
+checks size count below id asn = refl
+
+module _ (seen : Scan) (count id asn : ℕ) (waits ok : Bool) (e : ok ≡ limits (seen .size) count (seen .below) id asn) where
+  pub concludes : (r : Decision) (transmit receive : Found) → ok ≡ true → transmit ≡ foundOf (seen .transmit) → receive ≡ foundOf (seen .receive) → r ≡ action asn waits transmit receive → r ≡ concluded seen count id asn waits
+  unfolding concluded
+  concludes r transmit receive t g h f = if-on _ _ _ (sym e ∙ t) (rw (g, h) at f)
+
+  pub refuses : ok ≡ false → Refused ≡ concluded seen count id asn waits
+  unfolding concluded
+  refuses t = if-off _ _ _ (sym e ∙ t) refl
+
+-- ---- the numbers of a decision
+module _ (d : Decision) where
+  pub answers-refused : d ≡ Refused → record { number = 8; action = 0; channel = 0; place = 0 } ≡ answerOf d
+  unfolding answerOf
+  answers-refused e = rw e
+
+  pub answers-sleep : d ≡ Sleep → record { number = 0; action = 0; channel = 0; place = 0 } ≡ answerOf d
+  unfolding answerOf
+  answers-sleep e = rw e
+
+  pub answers-transmit : (place channel : ℕ) → d ≡ Transmit place channel → record { number = 0; action = 1; channel = channel; place = place } ≡ answerOf d
+  unfolding answerOf
+  answers-transmit place channel e = rw e
+
+  pub answers-listen : (place channel : ℕ) → d ≡ Listen place channel → record { number = 0; action = 2; channel = channel; place = place } ≡ answerOf d
+  unfolding answerOf
+  answers-listen place channel e = rw e
+
+pub ruleset slots = (choices, no-slot, some-slot, slot-fits, active, transmits, receives, searches, results, results-none, begins, steps, listens, sleeps, sends, sends-not, acts-waiting, acts-idle, checks, concludes, refuses, answers-refused, answers-sleep, answers-transmit, answers-listen)

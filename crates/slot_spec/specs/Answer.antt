@@ -1,0 +1,12 @@
+-- The numbers of a decision, for each of its cases (docs/RULES.md, Slot and channel). Assumes nothing.
+use Rattle.refusal.specs.Refusal.{done, outOfLimits}
+use Rattle.slot_spec.specs.declared.Decision.{Decision}
+use Rattle.slot_spec.specs.declared.Decision.the-variants.{Refused, Sleep, Transmit, Listen}
+use Rattle.slot_spec.specs.declared.SlotAnswer.{SlotAnswer}
+
+-- a refused decision is sleep with the refusal's number, and sleep has place 0 and channel 0; action 0 sleep, 1 transmit, 2 listen
+unfoldable pub answerOf : Decision → SlotAnswer
+answerOf Refused = record { number = outOfLimits; action = 0; channel = 0; place = 0 }
+answerOf Sleep = record { number = done; action = 0; channel = 0; place = 0 }
+answerOf (Transmit place channel) = record { number = done; action = 1; channel = channel; place = place }
+answerOf (Listen place channel) = record { number = done; action = 2; channel = channel; place = place }

@@ -1,0 +1,34 @@
+-- `text_line::put_synchronization` meets its contract. Assumes nothing.
+use Rattle.text_line_spec.proofs.LineLaws.{lines}
+use borrow.Author.Needs.{needs}
+use Rattle.text_line.proofs.put_synchronization.Statement.{statement}
+use Rattle.text_line.proofs.put_synchronization.Tie as tie
+
+slice-aggregate-put-field : tie.Need-slice-aggregate-put-field
+slice-aggregate-put-field c = search needs
+
+put-field-requires : tie.Need-put-field-requires
+put-field-requires c κs = search needs
+
+slice-aggregate-put-field-2 : tie.Need-slice-aggregate-put-field-2
+slice-aggregate-put-field-2 c = search needs
+
+put-field-requires-2 : tie.Need-put-field-requires-2
+put-field-requires-2 c κs = search needs
+
+same-length : tie.Need-same-length
+same-length c = search needs
+
+returns : tie.Need-returns
+returns c = search (needs, lines)
+
+pub put-synchronization-spec : {M : Type 1} → statement M
+put-synchronization-spec =
+    tie.close
+    (tie.spec
+    slice-aggregate-put-field
+    put-field-requires
+    slice-aggregate-put-field-2
+    put-field-requires-2
+    same-length
+    returns)

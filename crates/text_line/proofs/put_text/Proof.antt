@@ -1,0 +1,62 @@
+-- `text_line::put_text` meets its contract. Assumes nothing.
+use Prim.Native.Nat.{_+_, _-_, _≤_}
+use mathlib.Core.Path.{_≡_}
+use lib.ListN.{length, drop}
+use borrow.Author.Needs.{needs}
+use Rattle.octets_spec.specs.Number.{stored}
+use Rattle.text_line_spec.proofs.LineLaws.{text-start, text-next, text-end}
+use Rattle.text_line.proofs.put_text.Statement.{statement}
+use Rattle.text_line.proofs.put_text.Tie as tie
+
+abbrev Inv-loop : tie.InvT-loop
+Inv-loop room₀ at text i₀ room i = (i ≤ length text) × (length room ≡ length room₀) × (stored room (at + i) (drop i text) ≡ stored room₀ at text)
+
+abbrev μ-loop : tie.MeasureT-loop
+μ-loop room₀ at text i₀ room i = length text - i
+
+loop-holds : tie.Need-loop-holds Inv-loop μ-loop
+loop-holds c = search (needs, text-start)
+
+shared-slice-read-room : tie.Need-shared-slice-read-room Inv-loop μ-loop
+shared-slice-read-room c = search needs
+
+add-room : tie.Need-add-room Inv-loop μ-loop
+add-room c = search needs
+
+slice-write-room : tie.Need-slice-write-room Inv-loop μ-loop
+slice-write-room c = search needs
+
+add-i : tie.Need-add-i Inv-loop μ-loop
+add-i c = search needs
+
+loop-less : tie.Need-loop-less Inv-loop μ-loop
+loop-less c = search needs
+
+loop-again : tie.Need-loop-again Inv-loop μ-loop
+loop-again c = search (needs, text-next)
+
+add-result : tie.Need-add-result Inv-loop μ-loop
+add-result c = search needs
+
+same-length : tie.Need-same-length Inv-loop μ-loop
+same-length c = search needs
+
+returns : tie.Need-returns Inv-loop μ-loop
+returns c = search (needs, text-end)
+
+pub put-text-spec : {M : Type 1} → statement M
+put-text-spec =
+    tie.close
+    (tie.spec
+    Inv-loop
+    μ-loop
+    loop-holds
+    shared-slice-read-room
+    add-room
+    slice-write-room
+    add-i
+    loop-less
+    loop-again
+    add-result
+    same-length
+    returns)

@@ -1,0 +1,74 @@
+-- The line of text that a reading is printed as, as bytes in ASCII (docs/RULES.md, The printed line). Assumes nothing.
+use Prim.Native.Nat.{ℕ, zero, suc, _+_, _/_}
+use mathlib.Core.Path.{_≡_}
+use mathlib.Core.List.{List, [], _∷_, _++_}
+use lib.ListN.{length}
+use Rattle.octets_spec.specs.Choice.{ifLt, ifEq}
+use Rattle.octets_spec.specs.Number.{stored}
+use Rattle.refusal.specs.Refusal.{done}
+use Rattle.eb_record_spec.specs.declared.Beacon.{Beacon}
+use Rattle.eb_read_spec.specs.declared.ReadAnswer.{ReadAnswer}
+use Rattle.io.specs.Digits.{digits}
+
+-- how many decimal digits a number has; the bound only has to be large enough
+unfoldable pub widthGo : ℕ → ℕ → ℕ
+widthGo zero n = 0
+widthGo (suc bound) n = ifLt n 10 1 (widthGo bound (n / 10) + 1)
+
+-- a number in decimal: as many digits as it has, so that no zero leads, and `0` for 0
+unfoldable pub decimal : ℕ → List ℕ
+decimal n = digits 10 (widthGo (suc n) n) n
+
+-- `asn `
+abbrev pub asnName : List ℕ
+asnName = 97 ∷ 115 ∷ 110 ∷ 32 ∷ []
+
+-- ` metric `
+abbrev pub metricName : List ℕ
+metricName = 32 ∷ 109 ∷ 101 ∷ 116 ∷ 114 ∷ 105 ∷ 99 ∷ 32 ∷ []
+
+-- ` size `
+abbrev pub sizeName : List ℕ
+sizeName = 32 ∷ 115 ∷ 105 ∷ 122 ∷ 101 ∷ 32 ∷ []
+
+-- ` links `
+abbrev pub linksName : List ℕ
+linksName = 32 ∷ 108 ∷ 105 ∷ 110 ∷ 107 ∷ 115 ∷ 32 ∷ []
+
+-- `refused `
+abbrev pub refusedName : List ℕ
+refusedName = 114 ∷ 101 ∷ 102 ∷ 117 ∷ 115 ∷ 101 ∷ 100 ∷ 32 ∷ []
+
+-- the end of a line
+abbrev pub newline : List ℕ
+newline = 10 ∷ []
+
+-- a number behind its name
+unfoldable pub field : List ℕ → ℕ → List ℕ
+field name n = name ++ decimal n
+
+-- `asn ` and ` metric `
+unfoldable pub synchronizationText : ℕ → ℕ → List ℕ
+synchronizationText asn metric = field asnName asn ++ field metricName metric
+
+-- ` size ` and ` links `, which end the line
+unfoldable pub slotframeText : ℕ → ℕ → List ℕ
+slotframeText size links = field sizeName size ++ (field linksName links ++ newline)
+
+-- what an accepted frame says: `asn 256 metric 2 size 11 links 1`
+unfoldable pub acceptedText : Beacon → List ℕ
+acceptedText b = synchronizationText (b .synchronization .asn) (b .synchronization .metric) ++ slotframeText (b .slotframe .size) (b .slotframe .count)
+
+-- the number of a refusal: `refused 2`
+unfoldable pub refusedText : ℕ → List ℕ
+refusedText number = field refusedName number ++ newline
+
+-- the line of a reading, with its newline
+unfoldable pub lineOf : ReadAnswer → List ℕ
+lineOf a = ifEq (a .number) done (acceptedText (a .beacon)) (refusedText (a .number))
+
+-- a part of the line was put into a room from a place on: the room then, and the place behind the part
+pub record PartPut (room : List ℕ) (at : ℕ) (part : List ℕ) (after : List ℕ) (next : ℕ) : Type 0 where
+  pub bytes : after ≡ stored room at part
+  pub size : length after ≡ length room
+  pub place : next ≡ at + length part

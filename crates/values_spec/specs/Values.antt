@@ -1,0 +1,84 @@
+-- The worked values, as a single list under a single claim: each of them holds (docs/RULES.md, Worked values). They speak of the
+-- definitions that the contracts cite. Assumes nothing.
+use Prim.Native.Nat.{ℕ, _+_, _-_, _^_}
+use mathlib.Core.Path.{_≡_}
+use mathlib.Core.Bool.{Bool, true, false, cond}
+use mathlib.Core.List.{List, [], _∷_}
+use lib.ListN.{replicate}
+use Rattle.refusal.specs.Refusal.{done, outOfLimits}
+use Rattle.hopping.specs.Hopping.{channelOf}
+use Rattle.nbr_metric_spec.specs.Metric.{blank, increment, eligible}
+use Rattle.nbr_metric.specs.JoinMetric.{joinMetric}
+use Rattle.nbr_metric_spec.specs.declared.Place.{Place}
+use Rattle.nbr_table_spec.specs.Changes.{attempted}
+use Rattle.nbr_table_spec.specs.Calls.{evaluated}
+use Rattle.nbr_table_spec.specs.declared.Table.{Table}
+use Rattle.nbr_table_spec.specs.declared.Parent.{Parent}
+use Rattle.nbr_table_spec.specs.declared.Parent.the-variants.{None, Held}
+
+-- a neighbour in use, with rank, attempts t and acknowledged a
+abbrev pub neighbour : ℕ → ℕ → ℕ → ℕ → Place
+neighbour id rank t a = record { id = id; rank = rank; attempts = t; acked = a; used = true }
+
+-- a table that holds neighbour 1 at a path cost, where neighbour 2 has another; t = a = 1 adds 256
+abbrev pub between : ℕ → ℕ → Table
+between heldAt otherAt = record { places = neighbour 1 (heldAt - 256) 1 1 ∷ neighbour 2 (otherAt - 256) 1 1 ∷ replicate 30 blank; parent = Held 1 }
+
+-- the parent that an evaluation leaves held, as a number, 0 for none
+abbrev pub parentOf : Parent → ℕ
+parentOf None = 0
+parentOf (Held id) = id
+
+-- two numbers that must be the same: what a definition gives, and what the value is
+pub record Worked : Type 0 where
+  pub is : ℕ
+  pub wants : ℕ
+
+-- the two
+abbrev pub worked : ℕ → ℕ → Worked
+worked is wants = record { is = is; wants = wants }
+
+-- a truth value as a number
+abbrev pub oneIf : Bool → ℕ
+oneIf b = cond b 1 0
+
+-- the list
+abbrev pub workedValues : List Worked
+workedValues =
+    -- increments: t 100, a 75; t 8, a 7; t 1, a 1
+    worked (increment 100 75) 512
+    ∷ worked (increment 8 7) 366
+    ∷ worked (increment 1 1) 256
+    -- with rank 256: t 11, a 3 is eligible, with increment 2304; t 12, a 3 and a 0 are not
+    ∷ worked (oneIf (eligible (neighbour 1 256 11 3))) 1
+    ∷ worked (increment 11 3) 2304
+    ∷ worked (oneIf (eligible (neighbour 1 256 12 3))) 0
+    ∷ worked (oneIf (eligible (neighbour 1 256 1 0))) 0
+    ∷ worked (oneIf (eligible (neighbour 1 256 0 0))) 0
+    -- cost 1408 held: kept against 768, changed for 767
+    ∷ worked (parentOf (evaluated (between 1408 768) .table .parent)) 1
+    ∷ worked (parentOf (evaluated (between 1408 767) .table .parent)) 2
+    -- join metrics: ranks 256 and 2816; ranks 255 and 65535 are refused
+    ∷ worked (joinMetric 256 .number) done
+    ∷ worked (joinMetric 256 .metric) 0
+    ∷ worked (joinMetric 2816 .number) done
+    ∷ worked (joinMetric 2816 .metric) 10
+    ∷ worked (joinMetric 255 .number) outOfLimits
+    ∷ worked (joinMetric 65535 .number) outOfLimits
+    -- channels: ASN 11, offset 0; ASN 2^40 - 1, offsets 0 and 1
+    ∷ worked (channelOf 11 0) 13
+    ∷ worked (channelOf (2 ^ 40 - 1) 0) 21
+    ∷ worked (channelOf (2 ^ 40 - 1) 1) 16
+    -- t 255, a 1, one failed attempt: halved first
+    ∷ worked (attempted 1 false (neighbour 1 256 255 1) .attempts) 128
+    ∷ worked (attempted 1 false (neighbour 1 256 255 1) .acked) 0
+    ∷ []
+
+-- every value holds
+abbrev pub AllHold : List Worked → Type 0
+AllHold [] = Unit
+AllHold (r ∷ rs) = (r .is ≡ r .wants) × AllHold rs
+
+-- the claim
+abbrev pub Values : Type 0
+Values = AllHold workedValues
