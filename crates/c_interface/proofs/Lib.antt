@@ -1,4 +1,1 @@
 pub mod JoinLaws
-pub mod EvaluateLaws
-pub mod ReplayLaws
-pub mod FlatLaws

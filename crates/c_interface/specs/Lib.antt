@@ -1,4 +1,1 @@
 pub mod Metric
-pub mod Evaluate
-pub mod Replay
-pub mod Flat

@@ -1,5 +1,3 @@
-// What a firmware or a gateway calls from C: numbers and lent slices only. include/tesolvagna.h describes each function.
-pub mod decision;
-pub mod frames;
+// What a firmware or a gateway calls from C: numbers, structs by value and lent slices. include/tesolvagna.h describes each function.
 pub mod rank;
-pub mod table;
+pub mod slot;

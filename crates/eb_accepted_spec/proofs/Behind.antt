@@ -14,7 +14,7 @@ use Rattle.ie_walk_spec.specs.Walk.{bump, headerGo, headerList}
 use Rattle.ie_walk_spec.specs.declared.Headed.{Headed}
 use Rattle.eb_read_spec.proofs.Each.{each-lt, each-eq}
 
--- ---- a group: a sub-element stands two bytes behind its descriptor's place, and none is of the kind of joining information
+-- ---- a group: a sub-element stands two bytes behind its descriptor's offset, and none is of the kind of joining information
 abbrev pub innerBehind : InnerStep → ℕ → ℕ → Type 0
 innerBehind inner.Back at end = Unit
 innerBehind (inner.Part kind from to) at end = (from ≡ at + 2) × (from ≤ to) × (to ≤ end) × (kind ≡ 258 → ⊥)

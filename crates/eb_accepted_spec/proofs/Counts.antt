@@ -19,16 +19,16 @@ use Rattle.ie_walk_spec.specs.Walk.{seenOf, skipOne, taken, stopped, partTaken,
 use Rattle.ie_walk_spec.specs.declared.Walk.{Walk}
 use Rattle.ie_walk_spec.specs.declared.Headed.{Headed}
 use Rattle.eb_read_spec.specs.declared.Examination.{Examination}
-use Rattle.eb_read_spec.specs.Read.{headedWalk, blankWalk, elementsWalk, elementsPlace, examined}
+use Rattle.eb_read_spec.specs.Read.{headedWalk, blankWalk, elementsWalk, elementsOffset, examined}
 use Rattle.eb_read_spec.proofs.Each.{each-eq}
 use Rattle.eb_read_spec.proofs.Within.{outer-within}
 use Rattle.eb_read_spec.proofs.Noted.{kind-sync-ends, kind-hopping-ends, kind-slotframe-ends}
 use Rattle.eb_accepted_spec.proofs.Behind.{innerBehind, inner-behind, payload-follows}
 
 -- ---- the count
--- so many bytes if there is an element at a place; a place that is 0 is none
+-- so many bytes if there is an element at an offset; an offset that is 0 is none
 unfoldable pub bytesAt : ℕ → ℕ → ℕ
-bytesAt place n = ifEq place 0 0 n
+bytesAt offset n = ifEq offset 0 0 n
 
 -- the sub-elements that a walk noted: synchronization, timeslot, hopping, slotframe
 unfoldable pub inGroups : List ℕ → Walk → ℕ
@@ -42,7 +42,7 @@ inGroups s w =
 unfoldable pub inJoining : Walk → ℕ
 inJoining w = bytesAt (w .joining) (3 + (w .joiningend - w .joining))
 
--- from `start` on, what a walk noted takes no more than the bytes up to a place, with the descriptor of a group if one was needed
+-- from `start` on, what a walk noted takes no more than the bytes up to an offset, with the descriptor of a group if one was needed
 unfoldable pub Counts : List ℕ → ℕ → Walk → ℕ → Type 0
 Counts s start w at = start + (inGroups s w + min (inGroups s w) 2 + inJoining w) ≤ at
 
@@ -51,11 +51,11 @@ unfoldable Inside : List ℕ → ℕ → Walk → ℕ → Type 0
 Inside s start w at = start + (inGroups s w + 2 + inJoining w) ≤ at
 
 -- ---- what an element adds to the count
-bytes-most : (place n : ℕ) → bytesAt place n ≤ n
+bytes-most : (offset n : ℕ) → bytesAt offset n ≤ n
 unfolding bytesAt
-bytes-most place n = either-eq (λ (m : ℕ). m ≤ n) _ _ (omega arith) (omega arith) _ _
+bytes-most offset n = either-eq (λ (m : ℕ). m ≤ n) _ _ (omega arith) (omega arith) _ _
 
--- the place of a kind, where an element of that kind is noted anew, and of which f gives the bytes
+-- the offset of a kind, where an element of that kind is noted anew, and of which f gives the bytes
 module _ (f : ℕ → ℕ → ℕ) (from to old end size : ℕ) where
   adds-on : (test : Bool) → (test ≡ true → f from to ≤ size) → bytesAt (ifOn test from old) (f (ifOn test from old) (ifOn test to end)) ≤ bytesAt old (f old end) + ifOn test size 0
   unfolding ifOn
@@ -126,13 +126,13 @@ module _ (s : List ℕ) (start : ℕ) where
     unfolding Counts inGroups inJoining skipOne
     skip-counts h = further h
 
-    stop-counts : Counts s start w at → (fault place : ℕ) → Counts s start (stopped w fault place) to
+    stop-counts : Counts s start w at → (fault offset : ℕ) → Counts s start (stopped w fault offset) to
     unfolding Counts inGroups inJoining stopped
-    stop-counts h fault place = further h
+    stop-counts h fault offset = further h
 
-    stop-inside : Inside s start w at → (fault place : ℕ) → Inside s start (stopped w fault place) to
+    stop-inside : Inside s start w at → (fault offset : ℕ) → Inside s start (stopped w fault offset) to
     unfolding Inside inGroups inJoining stopped
-    stop-inside h fault place = omega (arith, h, more)
+    stop-inside h fault offset = omega (arith, h, more)
 
   module _ (w : Walk) (at to : ℕ) where
     -- a group's descriptor has two bytes
@@ -217,7 +217,7 @@ elements-count s at end =
     later s _ (head .payload) _ end (from .0) (lists-count _ .0 s _ _ end _ (from .1) (headed-counts s _ head _ (omega arith)))))
     (headed-none s at end _) _ _
 
-pub examined-count : (s : List ℕ) → (examined s .walk .synchronization ≡ 0 → ⊥) → Counts s (elementsPlace s + 2) (examined s .walk) (length s)
+pub examined-count : (s : List ℕ) → (examined s .walk .synchronization ≡ 0 → ⊥) → Counts s (elementsOffset s + 2) (examined s .walk) (length s)
 unfolding examined blankWalk
 examined-count s =
-    either-eq (λ (x : Examination). Counted s (elementsPlace s) (length s) (x .walk)) _ _ (elements-count s (elementsPlace s) (length s)) (headed-none s (elementsPlace s) (length s) _) _ _
+    either-eq (λ (x : Examination). Counted s (elementsOffset s) (length s) (x .walk)) _ _ (elements-count s (elementsOffset s) (length s)) (headed-none s (elementsOffset s) (length s) _) _ _

@@ -19,7 +19,7 @@ use Rattle.eb_record_spec.specs.declared.Address.{Address}
 use Rattle.eb_record_spec.specs.declared.TimeslotTemplate.{TimeslotTemplate}
 use Rattle.eb_record_spec.specs.declared.JoiningInformation.{JoiningInformation}
 use Rattle.ie_walk_spec.specs.declared.Walk.{Walk}
-use Rattle.eb_decode_spec.specs.Decode.{sequenceOf, sourceOf, synchronizationAt, timingAt, templateAt, linkAt, slotframeAt, networkOffset, joiningAt, openingOf, decoded}
+use Rattle.eb_decode_spec.specs.Decode.{sequenceOf, sourceOf, synchronizationAt, timingAt, templateAt, linkAt, slotframeAt, networkOffset, joiningAt, macHeaderOf, decoded}
 use Rattle.eb_read_spec.specs.Read.{examined}
 use Rattle.eb_read_spec.specs.Claims.{Bytes}
 use Rattle.eb_read_spec.proofs.Noted.{SlotframePassed, TimeslotPassed, Noted, examined-noted}
@@ -71,9 +71,9 @@ module _ (s : List ℕ) (bytes : Bytes s) where
   unfolding timingAt
   last-fits at length k =
       let P : ℕ → Type 0 = λ n. n < 2 ^ 24 in
-      let few : (place : ℕ) → leAt 2 s place < 2 ^ 24 = λ place. omega (arith, le-below s bytes 2 place) in
-      let wide : (place : ℕ) → leAt (ifEq length 27 3 2) s place < 2 ^ 24 =
-      λ place. either-eq (λ (width : ℕ). leAt width s place < 2 ^ 24) _ _ (le-below s bytes 3 place) (few place) _ _ in
+      let few : (offset : ℕ) → leAt 2 s offset < 2 ^ 24 = λ offset. omega (arith, le-below s bytes 2 offset) in
+      let wide : (offset : ℕ) → leAt (ifEq length 27 3 2) s offset < 2 ^ 24 =
+      λ offset. either-eq (λ (width : ℕ). leAt width s offset < 2 ^ 24) _ _ (le-below s bytes 3 offset) (few offset) _ _ in
       lt-ltb _ _ (either-lt P _ _ (few _) (either-eq P _ _ (wide _) (wide _) _ _) _ _)
 
   timed-fits : (at length : ℕ) → (length ≡ 1 → ⊥) → templateFits (templateAt s at length) ≡ true
@@ -98,8 +98,8 @@ module _ (s : List ℕ) (bytes : Bytes s) where
   link-fits : (at i : ℕ) → SlotframePassed s at → i < getD s (at + 4) 0 → linkFits (leAt 2 s (at + 2)) (linkAt s at i) ≡ true
   unfolding linkFits linkAt
   link-fits at i h lt =
-      let place : at + (5 + 5 * i) ≡ at + 5 + 5 * i = omega arith in
-      let below : leAt 2 s (at + (5 + 5 * i)) < leAt 2 s (at + 2) = rw place (fit-below s _ _ (at + 5) i (h .below) lt) in
+      let offset : at + (5 + 5 * i) ≡ at + 5 + 5 * i = omega arith in
+      let below : leAt 2 s (at + (5 + 5 * i)) < leAt 2 s (at + 2) = rw offset (fit-below s _ _ (at + 5) i (h .below) lt) in
       also (lt-ltb _ _ below) (also (two-fit _) (byte-fits _))
 
   slotframe-fits : (at : ℕ) → SlotframePassed s at → slotframeFits (slotframeAt s at) ≡ true
@@ -131,7 +131,7 @@ module _ (s : List ℕ) (bytes : Bytes s) where
       at 0
 
   decoded-fits : (w : Walk) → Noted s (length s) w → Required w → fits (decoded s w) ≡ true
-  unfolding fits decoded openingOf
+  unfolding fits decoded macHeaderOf
   decoded-fits w noted required =
       also (sequence-fits _) (also (two-fit _) (also (source-fits _ _) (also (synchronization-fits (w .synchronization))
       (also (template-fits (w .timeslot) (w .timeslotend) (noted .timeslot (required .timeslot))) (also (byte-fits (w .hopping))

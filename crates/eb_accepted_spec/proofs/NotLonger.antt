@@ -18,10 +18,10 @@ use Rattle.eb_record_spec.specs.declared.SequenceNumber.the-variants.{Absent, N
 use Rattle.eb_record_spec.specs.declared.Address.the-variants.{Short, Extended}
 use Rattle.eb_record_spec.specs.declared.TimeslotTemplate.{TimeslotTemplate}
 use Rattle.eb_record_spec.specs.declared.JoiningInformation.{JoiningInformation}
-use Rattle.mac_header_spec.specs.Control.{controlOf, addressLength, placesOf}
+use Rattle.mac_header_spec.specs.Control.{controlOf, addressLength, offsetsOf}
 use Rattle.ie_walk_spec.specs.declared.Walk.{Walk}
-use Rattle.eb_decode_spec.specs.Decode.{sequenceOf, sourceOf, timingAt, templateAt, slotframeAt, networkOffset, joiningAt, openingOf, decoded}
-use Rattle.eb_read_spec.specs.Read.{elementsPlace, examined, readFrame}
+use Rattle.eb_decode_spec.specs.Decode.{sequenceOf, sourceOf, timingAt, templateAt, slotframeAt, networkOffset, joiningAt, macHeaderOf, decoded}
+use Rattle.eb_read_spec.specs.Read.{elementsOffset, examined, readFrame}
 use Rattle.eb_read_spec.specs.Claims.{Bytes}
 use Rattle.eb_read_spec.proofs.Each.{each-eq}
 use Rattle.eb_read_spec.proofs.Bounds.{le-below, be-below}
@@ -37,10 +37,10 @@ use Rattle.eb_accepted_spec.proofs.Counts.{bytesAt, inGroups, inJoining
 use Rattle.eb_accepted_spec.proofs.Fits.{accepted-fits}
 
 -- ---- laws of choices
--- an element at a place counts
-there : (place n : ℕ) → (place ≡ 0 → ⊥) → bytesAt place n ≡ n
+-- an element at an offset counts
+there : (offset n : ℕ) → (offset ≡ 0 → ⊥) → bytesAt offset n ≡ n
 unfolding bytesAt
-there place n some = sym (if-ne 0 n place 0 some refl)
+there offset n some = sym (if-ne 0 n offset 0 some refl)
 
 flag-most : (bit : ℕ) → flag (eqb bit 1) ≤ bit
 unfolding ifEq ifOn
@@ -58,24 +58,24 @@ source-on true long short = sym (length-le 8 long)
 source-on false long short = sym (length-le 2 short)
 
 module _ (s : List ℕ) where
-  sequence-place : (suppressed : ℕ) → ifEq suppressed 0 3 2 ≡ 2 + length (sequenceBytes (sequenceOf s suppressed))
+  sequence-offset : (suppressed : ℕ) → ifEq suppressed 0 3 2 ≡ 2 + length (sequenceBytes (sequenceOf s suppressed))
   unfolding sequenceOf ifEq ifOn
-  sequence-place suppressed = sequence-on (eqb suppressed 0) (getD s 2 0)
+  sequence-offset suppressed = sequence-on (eqb suppressed 0) (getD s 2 0)
 
-  source-place : (mode at : ℕ) → addressLength mode ≡ length (sourceBytes (sourceOf s mode at))
+  source-offset : (mode at : ℕ) → addressLength mode ≡ length (sourceBytes (sourceOf s mode at))
   unfolding addressLength sourceOf ifEq ifOn
-  source-place mode at = source-on (eqb mode 3) (leAt 8 s at) (leAt 2 s at)
+  source-offset mode at = source-on (eqb mode 3) (leAt 8 s at) (leAt 2 s at)
 
-  destination-place : (mode : ℕ) → 2 ≤ addressLength mode
+  destination-offset : (mode : ℕ) → 2 ≤ addressLength mode
   unfolding addressLength
-  destination-place mode = either-eq (λ (n : ℕ). 2 ≤ n) _ _ (omega arith) (omega arith) _ _
+  destination-offset mode = either-eq (λ (n : ℕ). 2 ≤ n) _ _ (omega arith) (omega arith) _ _
 
-  opening-least : 6 + length (sequenceBytes (openingOf s .sequence)) + length (sourceBytes (openingOf s .source)) ≤ elementsPlace s
-  unfolding openingOf elementsPlace placesOf
-  opening-least =
+  mac-header-least : 6 + length (sequenceBytes (macHeaderOf s .sequence)) + length (sourceBytes (macHeaderOf s .source)) ≤ elementsOffset s
+  unfolding macHeaderOf elementsOffset offsetsOf
+  mac-header-least =
       let control = controlOf (leAt 2 s 0) in
-      let places = placesOf control in
-      omega (arith, sequence-place (control .suppressed), destination-place (control .destination), source-place (control .source) (places .source))
+      let offsets = offsetsOf control in
+      omega (arith, sequence-offset (control .suppressed), destination-offset (control .destination), source-offset (control .source) (offsets .source))
 
 -- ---- timeslot: a timing of two bytes is written in two
 narrow : (a b : ℕ) → a < 65536 → b < 65536 → lastWidth (a ∷ b ∷ []) ≡ 2
@@ -131,10 +131,10 @@ unfolding inGroups
 counted-all s w required = rw (there _ _ (required .synchronization), there _ _ (required .timeslot), there _ _ (required .hopping), there _ _ (required .slotframe))
 
 module _ (s : List ℕ) (bytes : Bytes s) (w : Walk) (noted : Noted s (length s) w) (required : Required w) where
-  formula-most : Counts s (elementsPlace s + 2) w (length s) → frameLength (decoded s w) ≤ length s
+  formula-most : Counts s (elementsOffset s + 2) w (length s) → frameLength (decoded s w) ≤ length s
   unfolding frameLength groupSize decoded slotframeAt Counts inJoining
   formula-most counts =
-      omega (arith, counts, counted-all s w required, opening-least s, template-most s bytes (w .timeslot) (w .timeslotend) (noted .timeslot (required .timeslot)), joining-most s bytes (w .joining) (w .joiningend) (noted .joining))
+      omega (arith, counts, counted-all s w required, mac-header-least s, template-most s bytes (w .timeslot) (w .timeslotend) (noted .timeslot (required .timeslot)), joining-most s bytes (w .joining) (w .joiningend) (noted .joining))
 
   -- the arrays of a record that was read have their sizes
   timings-size : length (decoded s w .timeslot .timings) ≡ 12
@@ -149,7 +149,7 @@ module _ (s : List ℕ) (bytes : Bytes s) (w : Walk) (noted : Noted s (length s)
   unfolding decoded joiningAt
   network-size = either-eq (λ (j : JoiningInformation). length (j .network) ≡ 16) _ _ (length-replicate {A = ℕ} 16 0) (length-padded _ 0 16 _) _ _
 
-  frame-most : fits (decoded s w) ≡ true → Counts s (elementsPlace s + 2) w (length s) → length (frameOf (decoded s w)) ≤ length s
+  frame-most : fits (decoded s w) ≡ true → Counts s (elementsOffset s + 2) w (length s) → length (frameOf (decoded s w)) ≤ length s
   frame-most within counts = rw (length-frame (decoded s w) timings-size links-size network-size within) (formula-most counts)
 
 pub written-is-not-longer : WrittenIsNotLonger

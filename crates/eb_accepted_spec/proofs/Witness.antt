@@ -6,11 +6,11 @@ use Rattle.octets_spec.specs.Choice.{ifOn, ifLt}
 use Rattle.octets_spec.specs.Number.{leBytes, beBytes}
 use Rattle.eb_read_spec.specs.Witnesses.{shortest, shortestRecord}
 use Rattle.eb_read_spec.proofs.Witnessed.{shortest-is-read, shortest-done, shortest-bytes}
-use Rattle.eb_frame_spec.specs.Frame.{suppressedBit, sequenceBytes, sourceMode, sourceBytes, controlWord, openingBytes, headerDescriptor, groupDescriptor, shortDescriptor, longDescriptor, numbersIn, synchronizationBytes, lastWidth, timingsBytes, templateSize, templateBytes, hoppingBytes, linkBytes, linksBytes, slotframeBytes, groupSize, groupBytes, joiningWord, joiningSize, joiningBytes, frameOf}
+use Rattle.eb_frame_spec.specs.Frame.{suppressedBit, sequenceBytes, sourceMode, sourceBytes, controlWord, macHeaderBytes, headerDescriptor, groupDescriptor, shortDescriptor, longDescriptor, numbersIn, synchronizationBytes, lastWidth, timingsBytes, templateSize, templateBytes, hoppingBytes, linkBytes, linksBytes, slotframeBytes, groupSize, groupBytes, joiningWord, joiningSize, joiningBytes, frameOf}
 use Rattle.eb_accepted_spec.specs.Accepted.{ShortestIsWrittenBack}
 
 record-is-written : frameOf shortestRecord ≡ shortest
-unfolding ifOn ifLt leBytes beBytes suppressedBit sequenceBytes sourceMode sourceBytes controlWord openingBytes headerDescriptor groupDescriptor shortDescriptor longDescriptor numbersIn synchronizationBytes lastWidth timingsBytes templateSize templateBytes hoppingBytes linkBytes linksBytes slotframeBytes groupSize groupBytes joiningWord joiningSize joiningBytes frameOf
+unfolding ifOn ifLt leBytes beBytes suppressedBit sequenceBytes sourceMode sourceBytes controlWord macHeaderBytes headerDescriptor groupDescriptor shortDescriptor longDescriptor numbersIn synchronizationBytes lastWidth timingsBytes templateSize templateBytes hoppingBytes linkBytes linksBytes slotframeBytes groupSize groupBytes joiningWord joiningSize joiningBytes frameOf
 record-is-written = refl
 
 pub shortest-is-written-back : ShortestIsWrittenBack

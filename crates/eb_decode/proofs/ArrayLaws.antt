@@ -58,7 +58,7 @@ unfolding templateAt ifEq
 timings-none s at to e = rw e refl
 
 -- ---- links
-set-three : (ls : List Link) (i : ℕ) (l : Link) → i < length ls → set (set (set (linkNumbers ls) (3 * i) (l .timeslot)) (3 * i + 1) (l .offset)) (3 * i + 2) (l .options) ≡ linkNumbers (set ls i l)
+set-three : (ls : List Link) (i : ℕ) (l : Link) → i < length ls → set (set (set (linkNumbers ls) (3 * i) (l .timeslot)) (3 * i + 1) (l .«channel_offset»)) (3 * i + 2) (l .options) ≡ linkNumbers (set ls i l)
 unfolding linkNumbers
 set-three [] i l lt = absurd (not-suc-le-zero lt)
 set-three (x ∷ xs) zero l lt = refl
@@ -66,7 +66,7 @@ set-three (x ∷ xs) (suc i) l lt =
     let first : 3 * suc i ≡ suc (suc (suc (3 * i))) = omega arith in
     let second : 3 * suc i + 1 ≡ suc (suc (suc (3 * i + 1))) = omega arith in
     let third : 3 * suc i + 2 ≡ suc (suc (suc (3 * i + 2))) = omega arith in
-    rw (second, third, first) (ap (λ (ns : List ℕ). x .timeslot ∷ x .offset ∷ x .options ∷ ns) (set-three xs i l (omega arith)))
+    rw (second, third, first) (ap (λ (ns : List ℕ). x .timeslot ∷ x .«channel_offset» ∷ x .options ∷ ns) (set-three xs i l (omega arith)))
 
 -- an array of the numbers of links, of which so many are laid
 unfoldable pub laid : List ℕ → ℕ → ℕ → List ℕ

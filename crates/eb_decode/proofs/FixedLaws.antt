@@ -17,16 +17,16 @@ unfolding leAt
 le-split zero n s at = let all : 0 + n ≡ n = omega arith in rw (all, add-zero at) (omega arith)
 le-split (suc m) n s at =
     let more : suc m + n ≡ suc (m + n) = omega arith in
-    let place : at + suc m ≡ at + 1 + m = omega arith in
-    rw (more, place, le-split m n s (at + 1), pow-succ' 256 m) (omega (arith, mul-assoc 256 (256 ^ m) (leAt n s (at + 1 + m))))
+    let offset : at + suc m ≡ at + 1 + m = omega arith in
+    rw (more, offset, le-split m n s (at + 1), pow-succ' 256 m) (omega (arith, mul-assoc 256 (256 ^ m) (leAt n s (at + 1 + m))))
 
 be-split : (m n : ℕ) (s : List ℕ) (at : ℕ) → beAt (m + n) s at ≡ 256 ^ n * beAt m s at + beAt n s (at + m)
 unfolding beAt
 be-split zero n s at = let all : 0 + n ≡ n = omega arith in rw (all, add-zero at) (omega arith)
 be-split (suc m) n s at =
     let more : suc m + n ≡ suc (m + n) = omega arith in
-    let place : at + suc m ≡ at + 1 + m = omega arith in
-    rw (more, place, be-split m n s (at + 1))
+    let offset : at + suc m ≡ at + 1 + m = omega arith in
+    rw (more, offset, be-split m n s (at + 1))
     (omega (arith, mul-add (256 ^ n) (256 ^ m * getD s at 0) (beAt m s (at + 1)), mul-assoc (256 ^ n) (256 ^ m) (getD s at 0), ap (λ (k : ℕ). k * getD s at 0) (same m n)))
   where
     same : (m n : ℕ) → 256 ^ (m + n) ≡ 256 ^ n * 256 ^ m

@@ -13,12 +13,12 @@ use Rattle.eb_read_spec.specs.Inside.{TimeslotLength, JoiningInside, ElementsIn
 use Rattle.eb_read_spec.specs.declared.Examination.{Examination}
 use Rattle.eb_read_spec.specs.declared.ReadAnswer.{ReadAnswer}
 use Rattle.eb_read_spec.proofs.ReadLaws.{read-refused, read-done}
-use Rattle.layout.specs.Layout.{openingNumbers, elementNumbers, joiningNumbers, numbersOf, linkNumbers}
+use Rattle.layout.specs.Layout.{macHeaderNumbers, elementNumbers, joiningNumbers, numbersOf, linkNumbers}
 use Rattle.eb_decode.specs.Arrays.{arraysOf}
 
 module _ (s : List ℕ) (x : Examination) (is : x ≡ examined s) where
   pub into-refused : (x .number ≡ 0 → ⊥) → record { number = x .number; numbers = replicate 21 0; timings = replicate 12 0; links = replicate 48 0; network = replicate 16 0 } ≡ arraysOf (readFrame s)
-  unfolding arraysOf numbersOf openingNumbers elementNumbers joiningNumbers linkNumbers
+  unfolding arraysOf numbersOf macHeaderNumbers elementNumbers joiningNumbers linkNumbers
   into-refused bad = rw (← read-refused s x is blankBeacon bad refl) refl
 
   module _ (claim : AcceptedLiesInside) (good : x .number ≡ 0) where

@@ -11,16 +11,16 @@ use Rattle.octets_spec.specs.Choice.{ifEq}
 use Rattle.octets_spec.specs.Number.{leAt, beAt}
 use Rattle.octets_spec.specs.Counted.{counted, padded}
 use Rattle.octets_spec.proofs.ChoiceLaws.{if-eq, if-ne, either-eq, choices}
-use Rattle.mac_header_spec.specs.Control.{controlOf, placesOf, addressLength}
+use Rattle.mac_header_spec.specs.Control.{controlOf, offsetsOf, addressLength}
 use Rattle.mac_header_spec.specs.declared.Control.{Control}
-use Rattle.mac_header_spec.specs.declared.FieldPlaces.{FieldPlaces}
+use Rattle.mac_header_spec.specs.declared.FieldOffsets.{FieldOffsets}
 use Rattle.eb_record_spec.specs.declared.TimeslotTemplate.{TimeslotTemplate}
 use Rattle.eb_record_spec.specs.declared.JoiningInformation.{JoiningInformation}
 use Rattle.ie_walk_spec.specs.declared.Walk.{Walk}
 use Rattle.eb_decode_spec.proofs.DecodeLaws.{network-from, joining-is}
-use Rattle.eb_decode_spec.specs.Decode.{sequenceOf, sourceOf, openingOf, synchronizationAt, templateAt, slotframeAt, networkOffset, joiningAt, decoded}
+use Rattle.eb_decode_spec.specs.Decode.{sequenceOf, sourceOf, macHeaderOf, synchronizationAt, templateAt, slotframeAt, networkOffset, joiningAt, decoded}
 use Rattle.eb_read_spec.specs.Inside.{TimeslotLength, JoiningInside, ElementsInside}
-use Rattle.layout.specs.Layout.{sequencePresent, sequenceNumber, sourceKind, sourceAddress, bit, openingNumbers, elementNumbers, joiningNumbers, numbersOf}
+use Rattle.layout.specs.Layout.{sequencePresent, sequenceNumber, sourceKind, sourceAddress, bit, macHeaderNumbers, elementNumbers, joiningNumbers, numbersOf}
 
 -- a bit as a truth value is that bit
 bit-of : (n : ℕ) → n < 2 → bit (eqb n 1) ≡ n
@@ -42,8 +42,8 @@ short-or-extended : (mode : ℕ) → addressLength mode ≤ 8
 unfolding addressLength
 short-or-extended mode = either-eq (λ n. n ≤ 8) 8 2 (lit≤ tt) (lit≤ tt) mode 3
 
-pub source-low : (c : Control) (p : FieldPlaces) → p ≡ placesOf c → p .source ≤ 13
-unfolding placesOf
+pub source-low : (c : Control) (p : FieldOffsets) → p ≡ offsetsOf c → p .source ≤ 13
+unfolding offsetsOf
 source-low c p e = rw e (omega (arith, either-eq (λ n. n ≤ 3) 3 2 (lit≤ tt) (lit≤ tt) (c .suppressed) 0, short-or-extended (c .destination)))
 
 timeslot-some : (n : ℕ) → TimeslotLength n → 0 < n
@@ -68,13 +68,13 @@ module _ (s : List ℕ) where
   unfolding sourceOf
   source-is mode at = choice-ap sourceAddress mode 3 _ _
 
-  pub opening-is : (word there n number pan kind address : ℕ) (control : Control) (places : FieldPlaces) → word ≡ leAt 2 s 0 → control ≡ controlOf word → places ≡ placesOf control
-      → there ≡ ifEq (control .suppressed) 0 1 0 → n ≡ getD s 2 0 → number ≡ ifEq (control .suppressed) 0 n 0 → pan ≡ leAt 2 s (places .pan)
-      → kind ≡ ifEq (control .source) 3 1 0 → address ≡ ifEq (control .source) 3 (leAt 8 s (places .source)) (leAt 2 s (places .source))
-      → there ∷ number ∷ pan ∷ kind ∷ address ∷ [] ≡ openingNumbers (openingOf s .sequence) (openingOf s .pan) (openingOf s .source)
-  unfolding openingNumbers openingOf
-  opening-is word there n number pan kind address control places e f g h i j k l m =
-      rw (h, j, i, k, l, m, g, f, e, sequence-there (controlOf (leAt 2 s 0) .suppressed), sequence-is (controlOf (leAt 2 s 0) .suppressed), source-kind (controlOf (leAt 2 s 0) .source) (placesOf (controlOf (leAt 2 s 0)) .source), source-is (controlOf (leAt 2 s 0) .source) (placesOf (controlOf (leAt 2 s 0)) .source)) refl
+  pub mac-header-is : (word there n number pan kind address : ℕ) (control : Control) (offsets : FieldOffsets) → word ≡ leAt 2 s 0 → control ≡ controlOf word → offsets ≡ offsetsOf control
+      → there ≡ ifEq (control .suppressed) 0 1 0 → n ≡ getD s 2 0 → number ≡ ifEq (control .suppressed) 0 n 0 → pan ≡ leAt 2 s (offsets .pan)
+      → kind ≡ ifEq (control .source) 3 1 0 → address ≡ ifEq (control .source) 3 (leAt 8 s (offsets .source)) (leAt 2 s (offsets .source))
+      → there ∷ number ∷ pan ∷ kind ∷ address ∷ [] ≡ macHeaderNumbers (macHeaderOf s .sequence) (macHeaderOf s .pan) (macHeaderOf s .source)
+  unfolding macHeaderNumbers macHeaderOf
+  mac-header-is word there n number pan kind address control offsets e f g h i j k l m =
+      rw (h, j, i, k, l, m, g, f, e, sequence-there (controlOf (leAt 2 s 0) .suppressed), sequence-is (controlOf (leAt 2 s 0) .suppressed), source-kind (controlOf (leAt 2 s 0) .source) (offsetsOf (controlOf (leAt 2 s 0)) .source), source-is (controlOf (leAt 2 s 0) .source) (offsetsOf (controlOf (leAt 2 s 0)) .source)) refl
 
   -- the source address from eight bytes
   pub source-wide : (mode at n r : ℕ) → n ≡ leAt 8 s at → n % 65536 ≡ leAt 2 s at → r ≡ ifEq mode 3 n (n % 65536) → r ≡ ifEq mode 3 (leAt 8 s at) (leAt 2 s at)
@@ -120,10 +120,10 @@ module _ (s : List ℕ) where
     pub required-inside : (w .synchronization + 6 ≤ length s) × (w .timeslot < length s) × (w .timeslot ≤ w .timeslotend) × (w .hopping < length s) × (w .slotframe + 5 ≤ length s)
     required-inside = let some : 0 < w .timeslotend - w .timeslot = timeslot-some _ (inside .timeslot) in (inside .synchronization, omega (arith, inside .timeslotend), omega arith, inside .hopping, omega (arith, inside .slotframe))
 
-  pub numbers-are : (w : Walk) (opening elements joining r : List ℕ) → r ≡ opening ++ (elements ++ joining) → opening ≡ openingNumbers (openingOf s .sequence) (openingOf s .pan) (openingOf s .source)
+  pub numbers-are : (w : Walk) (opening elements joining r : List ℕ) → r ≡ opening ++ (elements ++ joining) → opening ≡ macHeaderNumbers (macHeaderOf s .sequence) (macHeaderOf s .pan) (macHeaderOf s .source)
       → elements ≡ elementNumbers (synchronizationAt s (w .synchronization)) (templateAt s (w .timeslot) (w .timeslotend - w .timeslot)) (getD s (w .hopping) 0) (slotframeAt s (w .slotframe))
       → joining ≡ joiningNumbers (joiningAt s (w .joining) (w .joiningend)) → r ≡ numbersOf (decoded s w)
   unfolding numbersOf decoded
   numbers-are w opening elements joining r is e f g = is ∙ rw (e, f, g)
 
-pub ruleset laying = (choices, source-low, opening-is, source-wide, elements-are, joining-none, joining-are, joining-there, required-inside, numbers-are)
+pub ruleset laying = (choices, source-low, mac-header-is, source-wide, elements-are, joining-none, joining-are, joining-there, required-inside, numbers-are)

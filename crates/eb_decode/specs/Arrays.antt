@@ -3,7 +3,7 @@ use Rattle.eb_read_spec.specs.declared.ReadAnswer.{ReadAnswer}
 use Rattle.layout.specs.Layout.{numbersOf, linkNumbers}
 use Rattle.eb_decode.specs.declared.FrameArrays.{FrameArrays}
 
--- the number, and the record in four arrays, each number in its place
+-- the number, and the record in four arrays, each number in its offset
 unfoldable pub arraysOf : ReadAnswer → FrameArrays
 arraysOf answer = record {
   number = answer .number;

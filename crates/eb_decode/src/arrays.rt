@@ -18,7 +18,7 @@ fn third_byte(s: &[u8], third: usize, wide: usize) -> u64
     fixed::choose(wide as u64, 0, 0, fixed::byte(s, third))
 }
 
-// One of the last two timings: of 2 bytes, or of 3 if `wide` is 1, where `third` is the place of the third.
+// One of the last two timings: of 2 bytes, or of 3 if `wide` is 1, where `third` is the offset of the third.
 fn last(s: &[u8], at: usize, third: usize, wide: usize) -> u32
     requires { ⌜ (at + 2 ≤ length (now s)) × (third < length (now s)) × (wide ≤ 1) × (wide ≡ 1 → third ≡ at + 2) ⌝ }
     ensures { λ r. ⌜ r ≡ leAt (2 + wide) (now (s .entry)) at ⌝ }

@@ -1,4 +1,4 @@
-// Numbers of fixed widths at places that are known to lie inside a slice: read without a test, so that a number is one load; and a
+// Numbers of fixed widths at offsets that are known to lie inside a slice: read without a test, so that a number is one load; and a
 // choice between two numbers.
 ghost use mathlib.Core.Path.{_≡_};
 ghost use Prim.Native.Nat.{_+_, _/_, _%_, _≤_, _<_};

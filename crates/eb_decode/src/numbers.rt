@@ -1,13 +1,13 @@
-// The numbers of an accepted frame: each is decoded straight into its place, without a branch on what a frame happens to hold where
+// The numbers of an accepted frame: each is decoded straight into its offset, without a branch on what a frame happens to hold where
 // that can be.
 ghost use mathlib.Core.Path.{_≡_};
 ghost use Prim.Native.Nat.{_+_, _*_, _-_, _%_, _≤_, _<_};
 ghost use lib.ListN.{length, getD};
 ghost use Rattle.octets_spec.specs.Choice.{ifEq};
 ghost use Rattle.octets_spec.specs.Number.{leAt, beAt};
-ghost use Rattle.eb_decode_spec.specs.Decode.{openingOf, synchronizationAt, templateAt, slotframeAt, joiningAt, decoded};
+ghost use Rattle.eb_decode_spec.specs.Decode.{macHeaderOf, synchronizationAt, templateAt, slotframeAt, joiningAt, decoded};
 ghost use Rattle.eb_read_spec.specs.Inside.{JoiningInside, ElementsInside};
-ghost use Rattle.layout.specs.Layout.{openingNumbers, elementNumbers, joiningNumbers, numbersOf};
+ghost use Rattle.layout.specs.Layout.{macHeaderNumbers, elementNumbers, joiningNumbers, numbersOf};
 use crate::fixed;
 use ie_walk_spec::Walk;
 
@@ -26,13 +26,13 @@ fn source(s: &[u8], mode: u64, at: usize) -> u64
     fixed::choose(mode, 3, n, n % 65536)
 }
 
-fn opening_numbers(s: &[u8]) -> [u64; 5]
-    ensures { λ r. ⌜ r ≡ openingNumbers (openingOf (now (s .entry)) .sequence) (openingOf (now (s .entry)) .pan) (openingOf (now (s .entry)) .source) ⌝ }
+fn mac_header_numbers(s: &[u8]) -> [u64; 5]
+    ensures { λ r. ⌜ r ≡ macHeaderNumbers (macHeaderOf (now (s .entry)) .sequence) (macHeaderOf (now (s .entry)) .pan) (macHeaderOf (now (s .entry)) .source) ⌝ }
 {
     let control = mac_header::control_of(octets::get::le(s, 0, 2));
-    let places = mac_header::places_of(control);
-    let pan = places.pan;
-    let at = places.source;
+    let offsets = mac_header::offsets_of(control);
+    let pan = offsets.pan;
+    let at = offsets.source;
     [
         fixed::choose(control.suppressed, 0, 1, 0),
         fixed::choose(control.suppressed, 0, octets::get::byte(s, 2), 0),
@@ -103,12 +103,12 @@ fn joining_numbers(s: &[u8], at: usize, to: usize) -> [u64; 8]
     present_numbers(s, at, to)
 }
 
-// The numbers of an accepted frame, in their places.
+// The numbers of an accepted frame, in their offsets.
 pub(crate) fn numbers_at(s: &[u8], w: Walk) -> [u64; 21]
     requires { ⌜ ElementsInside (now s) w ⌝ }
     ensures { λ r. ⌜ r ≡ numbersOf (decoded (now (s .entry)) w) ⌝ }
 {
-    let opening = opening_numbers(s);
+    let opening = mac_header_numbers(s);
     let elements = element_numbers(
         s,
         w.synchronization,

@@ -15,9 +15,9 @@ use Rattle.octets_spec.specs.Counted.{counted, padded}
 use Rattle.octets_spec.proofs.ChoiceLaws.{if-lt, if-ge, if-eq, if-ne, choices}
 use Rattle.octets_spec.proofs.NumberLaws.{le-past, be-past, positive}
 use Rattle.octets_spec.proofs.CountedLaws.{filling}
-use Rattle.mac_header_spec.specs.Control.{controlOf, placesOf}
+use Rattle.mac_header_spec.specs.Control.{controlOf, offsetsOf}
 use Rattle.mac_header_spec.specs.declared.Control.{Control}
-use Rattle.mac_header_spec.specs.declared.FieldPlaces.{FieldPlaces}
+use Rattle.mac_header_spec.specs.declared.FieldOffsets.{FieldOffsets}
 use Rattle.ie_walk_spec.specs.declared.Walk.{Walk}
 use Rattle.eb_record_spec.specs.Record.{blankLink, blankJoining, blankBeacon}
 use Rattle.eb_record_spec.specs.declared.SequenceNumber.{SequenceNumber}
@@ -30,8 +30,8 @@ use Rattle.eb_record_spec.specs.declared.Beacon.{Beacon}
 use Rattle.eb_record_spec.specs.declared.SequenceNumber.the-variants.{Absent, Number}
 use Rattle.eb_record_spec.specs.declared.Address.the-variants.{Short, Extended}
 use Rattle.eb_record_spec.specs.declared.Link.{Link}
-use Rattle.eb_decode_spec.specs.Decode.{sequenceOf, sourceOf, synchronizationAt, timingAt, templateAt, linkAt, slotframeAt, networkOffset, joiningAt, openingOf, decoded}
-use Rattle.eb_decode_spec.specs.declared.Opening.{Opening}
+use Rattle.eb_decode_spec.specs.Decode.{sequenceOf, sourceOf, synchronizationAt, timingAt, templateAt, linkAt, slotframeAt, networkOffset, joiningAt, macHeaderOf, decoded}
+use Rattle.eb_decode_spec.specs.declared.MacHeader.{MacHeader}
 
 -- ---- past the end
 module _ (s : List ℕ) (at k : ℕ) (past : length s ≤ at) where
@@ -96,7 +96,7 @@ module _ (s : List ℕ) where
     template-timed length width all h e f = if-ne _ _ length 1 h (rw (i, f, e))
 
   pub links-at : (at i timeslot offset options : ℕ) → timeslot ≡ leAt 2 s (at + (5 + 5 * i)) → offset ≡ leAt 2 s (at + (7 + 5 * i)) → options ≡ getD s (at + (9 + 5 * i)) 0
-      → record { timeslot = timeslot; offset = offset; options = options } ≡ linkAt s at i
+      → record { timeslot = timeslot; «channel_offset» = offset; options = options } ≡ linkAt s at i
   unfolding linkAt
   links-at at i timeslot offset options e f g = rw (e, f, g)
 
@@ -136,13 +136,13 @@ module _ (s : List ℕ) where
     joining-is word skip length address all h e f g k m = if-ne _ _ at 0 h (rw (k, m, g, f, e))
 
   -- ---- the whole
-  pub opens : (word pan : ℕ) (control : Control) (places : FieldPlaces) (sequence : SequenceNumber) (source : Address) → word ≡ leAt 2 s 0 → control ≡ controlOf word → places ≡ placesOf control
-      → sequence ≡ sequenceOf s (control .suppressed) → pan ≡ leAt 2 s (places .pan) → source ≡ sourceOf s (control .source) (places .source)
-      → record { sequence = sequence; pan = pan; source = source } ≡ openingOf s
-  unfolding openingOf
-  opens word pan control places sequence source e f g h k m = rw (h, k, m, g, f, e)
+  pub opens : (word pan : ℕ) (control : Control) (offsets : FieldOffsets) (sequence : SequenceNumber) (source : Address) → word ≡ leAt 2 s 0 → control ≡ controlOf word → offsets ≡ offsetsOf control
+      → sequence ≡ sequenceOf s (control .suppressed) → pan ≡ leAt 2 s (offsets .pan) → source ≡ sourceOf s (control .source) (offsets .source)
+      → record { sequence = sequence; pan = pan; source = source } ≡ macHeaderOf s
+  unfolding macHeaderOf
+  opens word pan control offsets sequence source e f g h k m = rw (h, k, m, g, f, e)
 
-  pub decodes : (w : Walk) (o : Opening) (y : Synchronization) (t : TimeslotTemplate) (length hopping : ℕ) (f : Slotframe) (j : JoiningInformation) → o ≡ openingOf s → y ≡ synchronizationAt s (w .synchronization)
+  pub decodes : (w : Walk) (o : MacHeader) (y : Synchronization) (t : TimeslotTemplate) (length hopping : ℕ) (f : Slotframe) (j : JoiningInformation) → o ≡ macHeaderOf s → y ≡ synchronizationAt s (w .synchronization)
       → length ≡ w .timeslotend - w .timeslot → t ≡ templateAt s (w .timeslot) length → hopping ≡ getD s (w .hopping) 0 → f ≡ slotframeAt s (w .slotframe) → j ≡ joiningAt s (w .joining) (w .joiningend)
       → record { sequence = o .sequence; pan = o .pan; source = o .source; synchronization = y; timeslot = t; hopping = hopping; slotframe = f; joining = j } ≡ decoded s w
   unfolding decoded

@@ -8,9 +8,9 @@ use lib.ListN.{getD, replicate}
 use Rattle.octets_spec.specs.Choice.{ifLt, ifEq}
 use Rattle.octets_spec.specs.Number.{leAt, beAt}
 use Rattle.octets_spec.specs.Counted.{counted, padded}
-use Rattle.mac_header_spec.specs.Control.{controlOf, placesOf}
+use Rattle.mac_header_spec.specs.Control.{controlOf, offsetsOf}
 use Rattle.ie_walk_spec.specs.declared.Walk.{Walk}
-use Rattle.eb_decode_spec.specs.declared.Opening.{Opening}
+use Rattle.eb_decode_spec.specs.declared.MacHeader.{MacHeader}
 use Rattle.eb_record_spec.specs.Record.{blankLink, blankJoining}
 use Rattle.eb_record_spec.specs.declared.SequenceNumber.{SequenceNumber}
 use Rattle.eb_record_spec.specs.declared.SequenceNumber.the-variants.{Absent, Number}
@@ -48,7 +48,7 @@ templateAt s at size =
 
 -- link i of a slotframe and link element: timeslot (2), channel offset (2), options (1)
 unfoldable pub linkAt : List ℕ → ℕ → ℕ → Link
-linkAt s at i = record { timeslot = leAt 2 s (at + (5 + 5 * i)); offset = leAt 2 s (at + (7 + 5 * i)); options = getD s (at + (9 + 5 * i)) 0 }
+linkAt s at i = record { timeslot = leAt 2 s (at + (5 + 5 * i)); «channel_offset» = leAt 2 s (at + (7 + 5 * i)); options = getD s (at + (9 + 5 * i)) 0 }
 
 -- slotframe and link: count, handle, size (2), number of links, the links
 unfoldable pub slotframeAt : List ℕ → ℕ → Slotframe
@@ -59,7 +59,7 @@ slotframeAt s at = record { handle = getD s (at + 1) 0; size = leAt 2 s (at + 2)
 unfoldable pub networkOffset : List ℕ → ℕ → ℕ
 networkOffset s at = 4 + 8 * (beAt 4 s at / 2 ^ 30 % 2)
 
--- joining information that lies from a place to another; at place 0 there is none
+-- joining information that lies from an offset to another; at offset 0 there is none
 unfoldable pub joiningAt : List ℕ → ℕ → ℕ → JoiningInformation
 joiningAt s at to =
     let word : ℕ = beAt 4 s at in
@@ -79,18 +79,18 @@ joiningAt s at to =
     })
 
 -- sequence number, destination PAN and source, which stand before the elements
-unfoldable pub openingOf : List ℕ → Opening
-openingOf s =
+unfoldable pub macHeaderOf : List ℕ → MacHeader
+macHeaderOf s =
     let control = controlOf (leAt 2 s 0) in
-    let places = placesOf control in
-    record { sequence = sequenceOf s (control .suppressed); pan = leAt 2 s (places .pan); source = sourceOf s (control .source) (places .source) }
+    let offsets = offsetsOf control in
+    record { sequence = sequenceOf s (control .suppressed); pan = leAt 2 s (offsets .pan); source = sourceOf s (control .source) (offsets .source) }
 
 -- the record: what stands before the elements, and each element where the walk noted it
 unfoldable pub decoded : List ℕ → Walk → Beacon
 decoded s w = record {
-  sequence = openingOf s .sequence;
-  pan = openingOf s .pan;
-  source = openingOf s .source;
+  sequence = macHeaderOf s .sequence;
+  pan = macHeaderOf s .pan;
+  source = macHeaderOf s .source;
   synchronization = synchronizationAt s (w .synchronization);
   timeslot = templateAt s (w .timeslot) (w .timeslotend - w .timeslot);
   hopping = getD s (w .hopping) 0;

@@ -7,7 +7,7 @@ use eb_record_spec::Address;
 use eb_record_spec::SequenceNumber;
 
 // What stands before the elements.
-pub struct Opening {
+pub struct MacHeader {
     pub sequence: SequenceNumber,
     pub pan: u16,
     pub source: Address,

@@ -1,7 +1,7 @@
 // The checks of a frame: those before its elements, the walk over the elements, and what is missing.
 ghost use mathlib.Core.Path.{_≡_};
 ghost use Prim.Native.Nat.{_≤_};
-ghost use Rattle.eb_read_spec.specs.Read.{headedWalk, elementsWalk, missing, walkNumber, blankWalk, elementsPlace, examined};
+ghost use Rattle.eb_read_spec.specs.Read.{headedWalk, elementsWalk, missing, walkNumber, blankWalk, elementsOffset, examined};
 ghost use Rattle.eb_read_spec.specs.Inside.{AcceptedLiesInside};
 use eb_read_spec::Examination;
 use ie_walk_spec::Headed;
@@ -9,7 +9,7 @@ use ie_walk_spec::Walk;
 use refusal::DONE;
 use refusal::MISSING_OR_TWICE;
 
-pub mod opening_fault;
+pub mod mac_header_fault;
 
 fn headed_walk(head: Headed) -> Walk
     ensures { λ r. ⌜ r ≡ headedWalk head ⌝ }
@@ -39,11 +39,11 @@ fn blank_walk() -> Walk
     })
 }
 
-fn elements_place(s: &[u8]) -> usize
-    ensures { λ r. ⌜ r ≡ elementsPlace (now (s .entry)) ⌝ }
+fn elements_offset(s: &[u8]) -> usize
+    ensures { λ r. ⌜ r ≡ elementsOffset (now (s .entry)) ⌝ }
 {
-    let places = mac_header::places_of(mac_header::control_of(octets::get::le(s, 0, 2)));
-    places.elements
+    let offsets = mac_header::offsets_of(mac_header::control_of(octets::get::le(s, 0, 2)));
+    offsets.elements
 }
 
 fn elements_walk(s: &[u8], at: usize, end: usize) -> Walk
@@ -95,14 +95,14 @@ pub fn examine(s: &[u8]) -> Examination
     ensures answer { λ r. ⌜ r ≡ examined (now (s .entry)) ⌝ }
     ensures inside { λ _. ⌜ AcceptedLiesInside ⌝ }
 {
-    let fault = crate::opening_fault::opening_fault(s);
+    let fault = crate::mac_header_fault::mac_header_fault(s);
     if fault != DONE {
         return Examination {
             number: fault,
             walk: blank_walk(),
         };
     }
-    let w = elements_walk(s, elements_place(s), s.len());
+    let w = elements_walk(s, elements_offset(s), s.len());
     Examination {
         number: walk_number(w),
         walk: w,

@@ -7,8 +7,8 @@ use lib.ListN.{length}
 use Rattle.octets_spec.specs.Number.{leBytes, stored}
 use Rattle.octets_spec.proofs.PutLaws.{stored-out}
 use Rattle.eb_record_spec.specs.declared.Beacon.{Beacon}
-use Rattle.eb_frame_spec.specs.Frame.{sequenceBytes, sourceBytes, headerDescriptor, groupSize, joiningBytes, beaconOpening, beaconGroup, frameOf}
-use Rattle.eb_frame_spec.proofs.LengthLaws.{length-le, length-opening, length-group-used}
+use Rattle.eb_frame_spec.specs.Frame.{sequenceBytes, sourceBytes, headerDescriptor, groupSize, joiningBytes, beaconMacHeader, beaconGroup, frameOf}
+use Rattle.eb_frame_spec.proofs.LengthLaws.{length-le, length-mac-header, length-group-used}
 use Rattle.eb_frame_spec.proofs.RangeLaws.{length-mapped}
 use Rattle.eb_frame_spec.proofs.RowLaws.{two, three}
 
@@ -22,11 +22,11 @@ pub elements-put : (s : List ℕ) (at : ℕ) (t u v : List ℕ) (b : Beacon) (si
 unfolding headerDescriptor
 elements-put s at t u v b size is e g h = three s at _ _ _ t u v 2 (length (beaconGroup b)) e (length-le 2 16128) g refl (rw is at h)
 
-pub frame-put : (b : Beacon) (s t u : List ℕ) (q a : ℕ) → q ≡ length (sequenceBytes (b .sequence)) → a ≡ length (sourceBytes (b .source)) → t ≡ stored s 0 (beaconOpening b)
+pub frame-put : (b : Beacon) (s t u : List ℕ) (q a : ℕ) → q ≡ length (sequenceBytes (b .sequence)) → a ≡ length (sourceBytes (b .source)) → t ≡ stored s 0 (beaconMacHeader b)
     → u ≡ stored t (6 + q + a) (headerDescriptor 126 0 ++ (beaconGroup b ++ joiningBytes (b .joining))) → u ≡ stored s 0 (frameOf b)
 unfolding frameOf
 frame-put b s t u q a sequence source e g =
     let from : 0 + (6 + q + a) ≡ 6 + q + a = omega arith in
-    two s 0 (beaconOpening b) _ t (6 + q + a) e (omega (arith, length-opening (b .sequence) (b .pan) (b .source))) u (rw from g)
+    two s 0 (beaconMacHeader b) _ t (6 + q + a) e (omega (arith, length-mac-header (b .sequence) (b .pan) (b .source))) u (rw from g)
 
 pub ruleset framings = (stored-out, length-mapped, before-is, elements-put, frame-put)

@@ -1,3 +1,3 @@
-pub mod OpeningLaws
+pub mod MacHeaderLaws
 pub mod JoiningLaws
 pub mod FramingLaws

@@ -1,4 +1,4 @@
-// Joining information of a frame, put into a lent room from a place on; past the end of the room nothing is stored.
+// Joining information of a frame, put into a lent buffer from an offset on; past the end of the buffer nothing is stored.
 ghost use mathlib.Core.Path.{_≡_};
 ghost use mathlib.Core.List.{[], _++_};
 ghost use Prim.Native.Nat.{_*_, _≤_, _<_};
@@ -35,16 +35,16 @@ fn wide(x: u8) -> u64
 }
 
 // The first bytes of a network ID.
-fn put_network(room: &mut [u8], at: usize, network: [u8; 16], used: usize)
+fn put_network(buffer: &mut [u8], at: usize, network: [u8; 16], used: usize)
     requires { ⌜ used ≤ 16 ⌝ }
-    ensures { λ _. ⌜ now (room .exit) ≡ stored (now (room .entry)) at (take used network) ⌝ }
+    ensures { λ _. ⌜ now (buffer .exit) ≡ stored (now (buffer .entry)) at (take used network) ⌝ }
 {
-    if room.len() <= at {
+    if buffer.len() <= at {
         return;
     }
     let mut i = 0;
     while i < used {
-        octets::put::put_le(room, at + i, 1, wide(network[i]));
+        octets::put::put_le(buffer, at + i, 1, wide(network[i]));
         i += 1;
     }
 }
@@ -60,17 +60,17 @@ fn address_width(proxied: bool) -> u8
 }
 
 // The rest of joining information: the address if P is set, the network ID.
-fn put_joining_rest(room: &mut [u8], at: usize, joining: JoiningInformation)
-    ensures { λ _. ⌜ now (room .exit) ≡ stored (now (room .entry)) at (ifOn (joining .proxied) (beBytes 8 (joining .address)) [] ++ take (joining .length) (joining .network)) ⌝ }
+fn put_joining_rest(buffer: &mut [u8], at: usize, joining: JoiningInformation)
+    ensures { λ _. ⌜ now (buffer .exit) ≡ stored (now (buffer .entry)) at (ifOn (joining .proxied) (beBytes 8 (joining .address)) [] ++ take (joining .length) (joining .network)) ⌝ }
 {
-    if room.len() <= at {
+    if buffer.len() <= at {
         return;
     }
     let network = joining.network;
     let width = address_width(joining.proxied);
-    octets::put::put_be(room, at, width, joining.address);
+    octets::put::put_be(buffer, at, width, joining.address);
     put_network(
-        room,
+        buffer,
         at + width as usize,
         network,
         eb_sizes::at_most_16(joining.length),
@@ -78,31 +78,31 @@ fn put_joining_rest(room: &mut [u8], at: usize, joining: JoiningInformation)
 }
 
 // The start of joining information: descriptor and subtype as one number of three bytes, then the flags and priorities.
-fn put_joining_start(room: &mut [u8], at: usize, joining: JoiningInformation)
-    ensures { λ _. ⌜ now (room .exit) ≡ stored (now (room .entry)) at (groupDescriptor 5 (joiningSize joining) ++ (leBytes 1 2 ++ beBytes 4 (joiningWord joining))) ⌝ }
+fn put_joining_start(buffer: &mut [u8], at: usize, joining: JoiningInformation)
+    ensures { λ _. ⌜ now (buffer .exit) ≡ stored (now (buffer .entry)) at (groupDescriptor 5 (joiningSize joining) ++ (leBytes 1 2 ++ beBytes 4 (joiningWord joining))) ⌝ }
 {
-    if room.len() <= at {
+    if buffer.len() <= at {
         return;
     }
     octets::put::put_le(
-        room,
+        buffer,
         at,
         3,
         eb_sizes::joining_size(joining) as u64 + 43008 + 2 * 65536,
     );
-    octets::put::put_be(room, at + 3, 4, joining_word(joining));
+    octets::put::put_be(buffer, at + 3, 4, joining_word(joining));
 }
 
 // Joining information, if it is there.
-pub fn put_joining(room: &mut [u8], at: usize, joining: JoiningInformation)
-    ensures { λ _. ⌜ now (room .exit) ≡ stored (now (room .entry)) at (joiningBytes joining) ⌝ }
+pub fn put_joining(buffer: &mut [u8], at: usize, joining: JoiningInformation)
+    ensures { λ _. ⌜ now (buffer .exit) ≡ stored (now (buffer .entry)) at (joiningBytes joining) ⌝ }
 {
-    if room.len() <= at {
+    if buffer.len() <= at {
         return;
     }
     if joining.present {
-        put_joining_start(room, at, joining);
-        put_joining_rest(room, at + 7, joining);
+        put_joining_start(buffer, at, joining);
+        put_joining_rest(buffer, at + 7, joining);
         return;
     }
 }

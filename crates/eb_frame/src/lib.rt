@@ -1,4 +1,4 @@
-// The frame of a record, put at the start of a lent room; past its end nothing is stored.
+// The frame of a record, put at the start of a lent buffer; past its end nothing is stored.
 ghost use mathlib.Core.Path.{_≡_};
 ghost use mathlib.Core.List.{_++_};
 ghost use Prim.Native.Nat.{_+_, _≤_};
@@ -8,7 +8,7 @@ ghost use Rattle.eb_frame_spec.specs.Frame.{headerDescriptor, joiningBytes, bea
 use eb_record_spec::Beacon;
 
 pub mod joining;
-pub mod opening;
+pub mod mac_header;
 
 // The bytes of the header list's terminator and of the MLME group, in which sixteen links at most are written.
 fn before_joining(b: Beacon) -> usize
@@ -19,32 +19,32 @@ fn before_joining(b: Beacon) -> usize
 }
 
 // The elements: the header list's terminator, the MLME group, joining information.
-fn put_elements(room: &mut [u8], at: usize, b: Beacon)
-    ensures { λ _. ⌜ now (room .exit) ≡ stored (now (room .entry)) at (headerDescriptor 126 0 ++ (beaconGroup b ++ joiningBytes (b .joining))) ⌝ }
+fn put_elements(buffer: &mut [u8], at: usize, b: Beacon)
+    ensures { λ _. ⌜ now (buffer .exit) ≡ stored (now (buffer .entry)) at (headerDescriptor 126 0 ++ (beaconGroup b ++ joiningBytes (b .joining))) ⌝ }
 {
-    if room.len() <= at {
+    if buffer.len() <= at {
         return;
     }
     let size = before_joining(b);
-    octets::put::put_le(room, at, 2, 16128);
+    octets::put::put_le(buffer, at, 2, 16128);
     eb_mlme::put_group(
-        room,
+        buffer,
         at + 2,
         b.synchronization,
         b.timeslot,
         b.hopping,
         b.slotframe,
     );
-    crate::joining::put_joining(room, at + size, b.joining);
+    crate::joining::put_joining(buffer, at + size, b.joining);
 }
 
-// The frame at the room's start.
-pub fn put_frame(room: &mut [u8], b: Beacon)
-    ensures { λ _. ⌜ now (room .exit) ≡ stored (now (room .entry)) 0 (frameOf b) ⌝ }
+// The frame at the buffer's start.
+pub fn put_frame(buffer: &mut [u8], b: Beacon)
+    ensures { λ _. ⌜ now (buffer .exit) ≡ stored (now (buffer .entry)) 0 (frameOf b) ⌝ }
 {
     let sequence = b.sequence;
     let source = b.source;
     let at = 6 + eb_sizes::sequence_size(sequence) + eb_sizes::source_size(source);
-    crate::opening::put_opening(room, sequence, b.pan, source);
-    put_elements(room, at, b);
+    crate::mac_header::put_mac_header(buffer, sequence, b.pan, source);
+    put_elements(buffer, at, b);
 }

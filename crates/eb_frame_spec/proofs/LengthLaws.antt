@@ -19,7 +19,7 @@ use Rattle.eb_record_spec.specs.declared.Link.{Link}
 use Rattle.eb_record_spec.specs.declared.Slotframe.{Slotframe}
 use Rattle.eb_record_spec.specs.declared.JoiningInformation.{JoiningInformation}
 use Rattle.eb_record_spec.specs.declared.Beacon.{Beacon}
-use Rattle.eb_frame_spec.specs.Frame.{openingBytes, sequenceBytes, sourceBytes, headerDescriptor, groupDescriptor, shortDescriptor, longDescriptor, numbersIn, synchronizationBytes, lastWidth, timingsBytes, templateSize, templateBytes, hoppingBytes, linkBytes, linksBytes, slotframeBytes, groupSize, groupBytes, flag, joiningWord, joiningSize, joiningBytes, frameOf, frameLength}
+use Rattle.eb_frame_spec.specs.Frame.{macHeaderBytes, sequenceBytes, sourceBytes, headerDescriptor, groupDescriptor, shortDescriptor, longDescriptor, numbersIn, synchronizationBytes, lastWidth, timingsBytes, templateSize, templateBytes, hoppingBytes, linkBytes, linksBytes, slotframeBytes, groupSize, groupBytes, flag, joiningWord, joiningSize, joiningBytes, frameOf, frameLength}
 use Rattle.eb_frame_spec.specs.Limits.{slotframeFits, presentFits, absentFits, joiningFits, fits}
 
 -- ---- a test that a row of `&&` stands on: were it off, so would be the row
@@ -140,12 +140,12 @@ pub joining-on : (b : Beacon) → fits b ≡ true → joiningFits (b .joining) �
 unfolding fits
 joining-on b within = on (joiningFits (b .joining)) (λ h. simp (h, and-false) at within)
 
-pub length-opening : (q : SequenceNumber) (pan : ℕ) (a : Address) → length (openingBytes q pan a) ≡ 6 + length (sequenceBytes q) + length (sourceBytes a)
-unfolding openingBytes
-length-opening q pan a = simp (length-append, length-le) (omega arith)
+pub length-mac-header : (q : SequenceNumber) (pan : ℕ) (a : Address) → length (macHeaderBytes q pan a) ≡ 6 + length (sequenceBytes q) + length (sourceBytes a)
+unfolding macHeaderBytes
+length-mac-header q pan a = simp (length-append, length-le) (omega arith)
 
 pub length-frame : (b : Beacon) → length (b .timeslot .timings) ≡ 12 → length (b .slotframe .links) ≡ 16 → length (b .joining .network) ≡ 16 → fits b ≡ true → length (frameOf b) ≡ frameLength b
 unfolding frameOf frameLength headerDescriptor
 length-frame b twelve sixteen bytes within =
     simp (length-append, length-le)
-    (omega (arith, length-opening (b .sequence) (b .pan) (b .source), length-group (b .synchronization) (b .timeslot) (b .hopping) (b .slotframe) twelve sixteen (few-links (b .slotframe) (slotframe-on b within)), length-joining (b .joining) bytes (joining-on b within)))
+    (omega (arith, length-mac-header (b .sequence) (b .pan) (b .source), length-group (b .synchronization) (b .timeslot) (b .hopping) (b .slotframe) twelve sixteen (few-links (b .slotframe) (slotframe-on b within)), length-joining (b .joining) bytes (joining-on b within)))

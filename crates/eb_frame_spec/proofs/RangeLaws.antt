@@ -1,4 +1,4 @@
--- Tests of a stretch of a list, in the shape in which a loop makes them; used places and those behind them. Assumes nothing.
+-- Tests of a stretch of a list, in the shape in which a loop makes them; used offsets and those behind them. Assumes nothing.
 use Prim.Native.Nat.{ℕ, suc, _-_, _<_, _≤_, min}
 use mathlib.Core.Path.{_≡_, refl, sym, _∙_}
 use mathlib.Core.Bool.{Bool, true, _&&_}

@@ -11,7 +11,7 @@ use Rattle.octets_spec.specs.Number.{leBytes, stored}
 -- ---- parts in a row
 sets-append : (s xs ys : List ℕ) (at : ℕ) → sets s at (xs ++ ys) ≡ sets (sets s at xs) (at + length xs) ys
 sets-append s [] ys at = rw (add-zero at)
-sets-append s (x ∷ xs) ys at = let place : at + suc (length xs) ≡ suc at + length xs = omega arith in rw place (sets-append (set s at x) xs ys (suc at))
+sets-append s (x ∷ xs) ys at = let offset : at + suc (length xs) ≡ suc at + length xs = omega arith in rw offset (sets-append (set s at x) xs ys (suc at))
 
 module _ (s : List ℕ) (at : ℕ) (xs ys t : List ℕ) (n : ℕ) (first : t ≡ stored s at xs) (long : length xs ≡ n) where
   pub two : (u : List ℕ) → u ≡ stored t (at + n) ys → u ≡ stored s at (xs ++ ys)
@@ -20,8 +20,8 @@ module _ (s : List ℕ) (at : ℕ) (xs ys t : List ℕ) (n : ℕ) (first : t ≡
 
 pub three : (s : List ℕ) (at : ℕ) (xs ys zs t u v : List ℕ) (n m : ℕ) → t ≡ stored s at xs → length xs ≡ n → u ≡ stored t (at + n) ys → length ys ≡ m → v ≡ stored u (at + (n + m)) zs → v ≡ stored s at (xs ++ (ys ++ zs))
 three s at xs ys zs t u v n m first long second wide third =
-    let place : at + (n + m) ≡ at + n + m = omega arith in
-    two s at xs (ys ++ zs) t n first long v (two t (at + n) ys zs u m second wide v (rw place at third))
+    let offset : at + (n + m) ≡ at + n + m = omega arith in
+    two s at xs (ys ++ zs) t n first long v (two t (at + n) ys zs u m second wide v (rw offset at third))
 
 -- nothing is stored
 pub nothing : (s : List ℕ) (at : ℕ) → s ≡ stored s at []
@@ -31,7 +31,7 @@ nothing s at = refl
 -- ---- a list put entry by entry, each in so many bytes: what is left gives what the whole gives
 module _ {A : Type 0} (one : A → List ℕ) (all : List A → List ℕ) (width : ℕ) (none : all [] ≡ []) (more : (x : A) (xs : List A) → all (x ∷ xs) ≡ one x ++ all xs) (wide : (x : A) → length (one x) ≡ width) (xs : List A) (n : ℕ) (s : List ℕ) (at : ℕ) where
   pub run-start : stored s (at + width * 0) (all (drop 0 (take n xs))) ≡ stored s at (all (take n xs))
-  run-start = let place : at + width * 0 ≡ at = omega arith in rw place
+  run-start = let offset : at + width * 0 ≡ at = omega arith in rw offset
 
   module _ (whole : List ℕ) (i : ℕ) (left : stored s (at + width * i) (all (drop i (take n xs))) ≡ whole) where
     pub run-next : (size : ℕ) (d : A) (t : List ℕ) → length xs ≡ size → n ≤ size → i < n → t ≡ stored s (at + width * i) (one (getD xs i d)) → stored t (at + width * (i + 1)) (all (drop (i + 1) (take n xs))) ≡ whole
@@ -39,9 +39,9 @@ module _ {A : Type 0} (one : A → List ℕ) (all : List A → List ℕ) (width 
         let there : i < length (take n xs) = omega (arith, length-take n xs) in
         let after : i + 1 ≡ suc i = omega arith in
         let cons : drop i (take n xs) ≡ getD xs i d ∷ drop (i + 1) (take n xs) = drop-cons (take n xs) i d there ∙ rw (getD-take n xs i d within, after) in
-        let place : at + width * (i + 1) ≡ at + width * i + width = omega arith in
+        let offset : at + width * (i + 1) ≡ at + width * i + width = omega arith in
         let all-of : all (drop i (take n xs)) ≡ one (getD xs i d) ++ all (drop (i + 1) (take n xs)) = ap all cons ∙ more (getD xs i d) (drop (i + 1) (take n xs)) in
-        rw place (two s (at + width * i) (one (getD xs i d)) (all (drop (i + 1) (take n xs))) t width put (wide (getD xs i d)) _ refl ∙ (rw all-of at left))
+        rw offset (two s (at + width * i) (one (getD xs i d)) (all (drop (i + 1) (take n xs))) t width put (wide (getD xs i d)) _ refl ∙ (rw all-of at left))
 
     pub run-end : i ≤ n → n ≤ i → s ≡ whole
     run-end before over =

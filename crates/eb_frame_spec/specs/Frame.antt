@@ -41,12 +41,12 @@ unfoldable pub controlWord : SequenceNumber → Address → ℕ
 controlWord sequence source = 2 ^ 6 + suppressedBit sequence * 2 ^ 8 + 2 ^ 9 + 2 * 2 ^ 10 + 2 * 2 ^ 12 + sourceMode source * 2 ^ 14
 
 -- frame control and the fixed fields: sequence number, destination PAN, destination FF FF, source
-unfoldable pub openingBytes : SequenceNumber → ℕ → Address → List ℕ
-openingBytes sequence pan source = leBytes 2 (controlWord sequence source) ++ (sequenceBytes sequence ++ (leBytes 2 pan ++ (leBytes 2 65535 ++ sourceBytes source)))
+unfoldable pub macHeaderBytes : SequenceNumber → ℕ → Address → List ℕ
+macHeaderBytes sequence pan source = leBytes 2 (controlWord sequence source) ++ (sequenceBytes sequence ++ (leBytes 2 pan ++ (leBytes 2 65535 ++ sourceBytes source)))
 
 -- those of a record
-abbrev pub beaconOpening : Beacon → List ℕ
-beaconOpening b = openingBytes (b .sequence) (b .pan) (b .source)
+abbrev pub beaconMacHeader : Beacon → List ℕ
+beaconMacHeader b = macHeaderBytes (b .sequence) (b .pan) (b .source)
 
 -- the descriptor of a header element: bits 0-6 length, 7-14 ID
 unfoldable pub headerDescriptor : ℕ → ℕ → List ℕ
@@ -96,7 +96,7 @@ hoppingBytes id = longDescriptor 9 1 ++ leBytes 1 id
 
 -- a link: timeslot, channel offset, options
 unfoldable pub linkBytes : Link → List ℕ
-linkBytes l = leBytes 2 (l .timeslot) ++ (leBytes 2 (l .offset) ++ leBytes 1 (l .options))
+linkBytes l = leBytes 2 (l .timeslot) ++ (leBytes 2 (l .«channel_offset») ++ leBytes 1 (l .options))
 
 -- links one after the other
 unfoldable pub linksBytes : List Link → List ℕ
@@ -148,7 +148,7 @@ joiningBytes j =
 
 -- the frame: the header list is its terminator 0x7E alone, and no payload terminator follows the elements
 unfoldable pub frameOf : Beacon → List ℕ
-frameOf b = beaconOpening b ++ (headerDescriptor 126 0 ++ (beaconGroup b ++ joiningBytes (b .joining)))
+frameOf b = beaconMacHeader b ++ (headerDescriptor 126 0 ++ (beaconGroup b ++ joiningBytes (b .joining)))
 
 -- its length as a formula of the record
 unfoldable pub frameLength : Beacon → ℕ

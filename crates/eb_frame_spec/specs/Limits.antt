@@ -50,13 +50,13 @@ templateFits t =
 
 -- a link's timeslot is below the size
 unfoldable pub linkFits : ℕ → Link → Bool
-linkFits size l = ltb (l .timeslot) size && (ltb (l .offset) (2 ^ 16) && ltb (l .options) 256)
+linkFits size l = ltb (l .timeslot) size && (ltb (l .«channel_offset») (2 ^ 16) && ltb (l .options) 256)
 
 -- an unused link is all zero
 unfoldable pub linkUnused : Link → Bool
-linkUnused l = eqb (l .timeslot) 0 && (eqb (l .offset) 0 && eqb (l .options) 0)
+linkUnused l = eqb (l .timeslot) 0 && (eqb (l .«channel_offset») 0 && eqb (l .options) 0)
 
--- size at least 1, 1 to 16 links, and the places behind them unused
+-- size at least 1, 1 to 16 links, and the offsets behind them unused
 unfoldable pub slotframeFits : Slotframe → Bool
 slotframeFits f =
     ltb (f .handle) 256

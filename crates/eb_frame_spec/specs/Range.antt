@@ -6,7 +6,7 @@ use lib.Dec.{ltb}
 use lib.ListN.{take, drop}
 use Rattle.eb_frame_spec.specs.Limits.{allOf}
 
--- a test holds of every entry from a place to another
+-- a test holds of every entry from an offset to another
 unfoldable pub allFrom : {A : Type 0} → (A → Bool) → List A → ℕ → ℕ → Bool
 allFrom test xs from to = allOf test (drop from (take to xs))
 

@@ -11,11 +11,11 @@ use Rattle.eb_frame_spec.specs.Limits.{linkFits, linkUnused, slotframeFits}
 use Rattle.eb_frame_spec.specs.Range.{allFrom}
 use Rattle.eb_frame_spec.proofs.RangeLaws.{stretches, all-used, all-unused}
 
-pub link-is : (l : Link) (size : ℕ) → l .offset < 65536 → l .options < 256 → ltb (l .timeslot) size ≡ linkFits size l
+pub link-is : (l : Link) (size : ℕ) → l .«channel_offset» < 65536 → l .options < 256 → ltb (l .timeslot) size ≡ linkFits size l
 unfolding linkFits
-link-is l size offset options = rw (lt-ltb (l .offset) 65536 offset, lt-ltb (l .options) 256 options, and-true)
+link-is l size offset options = rw (lt-ltb (l .«channel_offset») 65536 offset, lt-ltb (l .options) 256 options, and-true)
 
-pub link-blank : (l : Link) → eqb (l .timeslot) 0 && (eqb (l .offset) 0 && eqb (l .options) 0) ≡ linkUnused l
+pub link-blank : (l : Link) → eqb (l .timeslot) 0 && (eqb (l .«channel_offset») 0 && eqb (l .options) 0) ≡ linkUnused l
 unfolding linkUnused
 link-blank l = refl
 

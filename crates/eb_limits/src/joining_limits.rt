@@ -16,7 +16,7 @@ fn address_fits(joining: JoiningInformation) -> bool
     joining.address == 0
 }
 
-// Whether the bytes of a network ID from a place to another are below a bound.
+// Whether the bytes of a network ID from an offset to another are below a bound.
 fn network_below(network: [u8; 16], from: usize, to: usize, bound: u16) -> bool
     requires { ⌜ (from ≤ to) × (to ≤ 16) ⌝ }
     ensures { λ r. ⌜ r ≡ allFrom (below bound) network from to ⌝ }
@@ -30,7 +30,7 @@ fn network_below(network: [u8; 16], from: usize, to: usize, bound: u16) -> bool
     ok
 }
 
-// Whether the bytes of a network ID from a place on are unused.
+// Whether the bytes of a network ID from an offset on are unused.
 fn network_unused(network: [u8; 16], from: usize) -> bool
     requires { ⌜ from ≤ 16 ⌝ }
     ensures { λ r. ⌜ r ≡ allBelow 1 (drop from network) ⌝ }

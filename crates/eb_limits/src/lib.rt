@@ -64,7 +64,7 @@ fn synchronization_fits(synchronization: Synchronization) -> bool
     synchronization.asn < 1099511627776
 }
 
-// Whether the timings from a place to another are below a bound.
+// Whether the timings from an offset to another are below a bound.
 fn timings_below(timings: [u32; 12], from: usize, to: usize, bound: u32) -> bool
     requires { ⌜ (from ≤ to) × (to ≤ 12) ⌝ }
     ensures { λ r. ⌜ r ≡ allFrom (below bound) timings from to ⌝ }

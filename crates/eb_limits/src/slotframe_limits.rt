@@ -16,10 +16,10 @@ fn link_fits(link: Link, size: u16) -> bool
 fn link_unused(link: Link) -> bool
     ensures { λ r. ⌜ r ≡ linkUnused link ⌝ }
 {
-    (link.timeslot == 0) & ((link.offset == 0) & (link.options == 0))
+    (link.timeslot == 0) & ((link.channel_offset == 0) & (link.options == 0))
 }
 
-// Whether the links before a place fit a size.
+// Whether the links before an offset fit a size.
 fn links_fit(links: [Link; 16], to: usize, size: u16) -> bool
     requires { ⌜ to ≤ 16 ⌝ }
     ensures { λ r. ⌜ r ≡ allFrom (linkFits size) links 0 to ⌝ }
@@ -33,7 +33,7 @@ fn links_fit(links: [Link; 16], to: usize, size: u16) -> bool
     ok
 }
 
-// Whether the links from a place on are unused.
+// Whether the links from an offset on are unused.
 fn links_unused(links: [Link; 16], from: usize) -> bool
     requires { ⌜ from ≤ 16 ⌝ }
     ensures { λ r. ⌜ r ≡ allFrom linkUnused links from 16 ⌝ }

@@ -14,11 +14,11 @@ use Rattle.eb_frame_spec.proofs.RangeLaws.{length-mapped, clip-take}
 use Rattle.eb_frame_spec.proofs.RowLaws.{two, run-start, run-next, run-end, le-joined}
 
 -- ---- a link, and the links
-pub link-number : (l : Link) → l .timeslot < 65536 → l .offset < 65536 → leBytes 5 (l .timeslot + l .offset * 65536 + l .options * 4294967296) ≡ linkBytes l
+pub link-number : (l : Link) → l .timeslot < 65536 → l .«channel_offset» < 65536 → leBytes 5 (l .timeslot + l .«channel_offset» * 65536 + l .options * 4294967296) ≡ linkBytes l
 unfolding linkBytes
 link-number l timeslot offset =
-    let one : l .timeslot + l .offset * 65536 + l .options * 4294967296 ≡ l .timeslot + 65536 * (l .offset + 65536 * l .options) = omega arith in
-    rw one (le-joined 2 3 (l .timeslot) (l .offset + 65536 * l .options) timeslot ∙ ap (λ (xs : List ℕ). leBytes 2 (l .timeslot) ++ xs) (le-joined 2 1 (l .offset) (l .options) offset))
+    let one : l .timeslot + l .«channel_offset» * 65536 + l .options * 4294967296 ≡ l .timeslot + 65536 * (l .«channel_offset» + 65536 * l .options) = omega arith in
+    rw one (le-joined 2 3 (l .timeslot) (l .«channel_offset» + 65536 * l .options) timeslot ∙ ap (λ (xs : List ℕ). leBytes 2 (l .timeslot) ++ xs) (le-joined 2 1 (l .«channel_offset») (l .options) offset))
 
 length-link : (l : Link) → length (linkBytes l) ≡ 5
 unfolding linkBytes

@@ -1,4 +1,4 @@
-// The MLME group of a frame, put into a lent room from a place on; past the end of the room nothing is stored.
+// The MLME group of a frame, put into a lent buffer from an offset on; past the end of the buffer nothing is stored.
 ghost use mathlib.Core.Path.{_≡_};
 ghost use mathlib.Core.List.{_++_};
 ghost use Rattle.octets_spec.specs.Number.{leBytes, stored};
@@ -21,53 +21,53 @@ fn synchronization_number(synchronization: Synchronization) -> u64
 
 // The start of the MLME group: descriptor, synchronization, timeslot.
 fn put_group_start(
-    room: &mut [u8],
+    buffer: &mut [u8],
     at: usize,
     synchronization: Synchronization,
     template: TimeslotTemplate,
     count: u8,
 )
-    ensures { λ _. ⌜ now (room .exit) ≡ stored (now (room .entry)) at (groupDescriptor 1 (groupSize template count) ++ (synchronizationBytes synchronization ++ templateBytes template)) ⌝ }
+    ensures { λ _. ⌜ now (buffer .exit) ≡ stored (now (buffer .entry)) at (groupDescriptor 1 (groupSize template count) ++ (synchronizationBytes synchronization ++ templateBytes template)) ⌝ }
 {
-    if room.len() <= at {
+    if buffer.len() <= at {
         return;
     }
     octets::put::put_le(
-        room,
+        buffer,
         at,
         2,
         eb_sizes::group_sizes::group_size(template, count) as u64 + 34816,
     );
-    octets::put::put_le(room, at + 2, 8, synchronization_number(synchronization));
-    crate::template::put_template(room, at + 10, template);
+    octets::put::put_le(buffer, at + 2, 8, synchronization_number(synchronization));
+    crate::template::put_template(buffer, at + 10, template);
 }
 
 // The rest of the MLME group: hopping, whose descriptor and sequence ID are one number of three bytes, and the slotframe.
-fn put_group_rest(room: &mut [u8], at: usize, hopping: u8, slotframe: Slotframe)
-    ensures { λ _. ⌜ now (room .exit) ≡ stored (now (room .entry)) at (hoppingBytes hopping ++ slotframeBytes slotframe) ⌝ }
+fn put_group_rest(buffer: &mut [u8], at: usize, hopping: u8, slotframe: Slotframe)
+    ensures { λ _. ⌜ now (buffer .exit) ≡ stored (now (buffer .entry)) at (hoppingBytes hopping ++ slotframeBytes slotframe) ⌝ }
 {
-    if room.len() <= at {
+    if buffer.len() <= at {
         return;
     }
-    octets::put::put_le(room, at, 3, 51201 + hopping as u64 * 65536);
-    crate::slotframe::put_slotframe(room, at + 3, slotframe);
+    octets::put::put_le(buffer, at, 3, 51201 + hopping as u64 * 65536);
+    crate::slotframe::put_slotframe(buffer, at + 3, slotframe);
 }
 
 // The MLME group.
 pub fn put_group(
-    room: &mut [u8],
+    buffer: &mut [u8],
     at: usize,
     synchronization: Synchronization,
     template: TimeslotTemplate,
     hopping: u8,
     slotframe: Slotframe,
 )
-    ensures { λ _. ⌜ now (room .exit) ≡ stored (now (room .entry)) at (groupBytes synchronization template hopping slotframe) ⌝ }
+    ensures { λ _. ⌜ now (buffer .exit) ≡ stored (now (buffer .entry)) at (groupBytes synchronization template hopping slotframe) ⌝ }
 {
-    if room.len() <= at {
+    if buffer.len() <= at {
         return;
     }
     let size = eb_sizes::group_sizes::template_size(template);
-    put_group_start(room, at, synchronization, template, slotframe.count);
-    put_group_rest(room, at + (12 + size), hopping, slotframe);
+    put_group_start(buffer, at, synchronization, template, slotframe.count);
+    put_group_rest(buffer, at + (12 + size), hopping, slotframe);
 }

@@ -1,4 +1,4 @@
-// The slotframe and link element of a frame, put into a lent room from a place on; past the end of the room nothing is stored.
+// The slotframe and link element of a frame, put into a lent buffer from an offset on; past the end of the buffer nothing is stored.
 ghost use mathlib.Core.Path.{_≡_};
 ghost use mathlib.Core.List.{_++_};
 ghost use Prim.Native.Nat.{_+_, _*_, _≤_};
@@ -12,19 +12,19 @@ use eb_record_spec::Slotframe;
 fn link_number(link: Link) -> u64
     ensures { λ r. ⌜ leBytes 5 r ≡ linkBytes link ⌝ }
 {
-    link.timeslot as u64 + link.offset as u64 * 65536 + link.options as u64 * 4294967296
+    link.timeslot as u64 + link.channel_offset as u64 * 65536 + link.options as u64 * 4294967296
 }
 
-fn put_links(room: &mut [u8], at: usize, links: [Link; 16], used: usize)
+fn put_links(buffer: &mut [u8], at: usize, links: [Link; 16], used: usize)
     requires { ⌜ used ≤ 16 ⌝ }
-    ensures { λ _. ⌜ now (room .exit) ≡ stored (now (room .entry)) at (linksBytes (take used links)) ⌝ }
+    ensures { λ _. ⌜ now (buffer .exit) ≡ stored (now (buffer .entry)) at (linksBytes (take used links)) ⌝ }
 {
-    if room.len() <= at {
+    if buffer.len() <= at {
         return;
     }
     let mut i = 0;
     while i < used {
-        octets::put::put_le(room, at + 5 * i, 5, link_number(links[i]));
+        octets::put::put_le(buffer, at + 5 * i, 5, link_number(links[i]));
         i += 1;
     }
 }
@@ -41,14 +41,14 @@ fn head_number(handle: u8, size: u16, count: u8) -> u64
 }
 
 // The slotframe and link element.
-pub fn put_slotframe(room: &mut [u8], at: usize, slotframe: Slotframe)
-    ensures { λ _. ⌜ now (room .exit) ≡ stored (now (room .entry)) at (slotframeBytes slotframe) ⌝ }
+pub fn put_slotframe(buffer: &mut [u8], at: usize, slotframe: Slotframe)
+    ensures { λ _. ⌜ now (buffer .exit) ≡ stored (now (buffer .entry)) at (slotframeBytes slotframe) ⌝ }
 {
-    if room.len() <= at {
+    if buffer.len() <= at {
         return;
     }
     let links = slotframe.links;
     let head = head_number(slotframe.handle, slotframe.size, slotframe.count);
-    octets::put::put_le(room, at, 7, head);
-    put_links(room, at + 7, links, eb_sizes::at_most_16(slotframe.count));
+    octets::put::put_le(buffer, at, 7, head);
+    put_links(buffer, at + 7, links, eb_sizes::at_most_16(slotframe.count));
 }

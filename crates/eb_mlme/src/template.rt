@@ -1,4 +1,4 @@
-// The timeslot element of a frame, put into a lent room from a place on; past the end of the room nothing is stored.
+// The timeslot element of a frame, put into a lent buffer from an offset on; past the end of the buffer nothing is stored.
 ghost use mathlib.Core.Path.{_≡_};
 ghost use lib.ListN.{take, drop};
 ghost use Rattle.octets_spec.specs.Number.{stored};
@@ -6,53 +6,58 @@ ghost use Rattle.eb_frame_spec.specs.Frame.{numbersIn, lastWidth, timingsBytes,
 use eb_record_spec::TimeslotTemplate;
 
 // The first ten timings, two bytes each.
-fn put_first_timings(room: &mut [u8], at: usize, timings: [u32; 12])
-    ensures { λ _. ⌜ now (room .exit) ≡ stored (now (room .entry)) at (numbersIn 2 (take 10 timings)) ⌝ }
+fn put_first_timings(buffer: &mut [u8], at: usize, timings: [u32; 12])
+    ensures { λ _. ⌜ now (buffer .exit) ≡ stored (now (buffer .entry)) at (numbersIn 2 (take 10 timings)) ⌝ }
 {
-    if room.len() <= at {
+    if buffer.len() <= at {
         return;
     }
     let mut i = 0;
     while i < 10 {
-        octets::put::put_le(room, at + 2 * i, 2, timings[i] as u64);
+        octets::put::put_le(buffer, at + 2 * i, 2, timings[i] as u64);
         i += 1;
     }
 }
 
 // The last two timings, two or three bytes each.
-fn put_last_timings(room: &mut [u8], at: usize, timings: [u32; 12])
-    ensures { λ _. ⌜ now (room .exit) ≡ stored (now (room .entry)) at (numbersIn (lastWidth (drop 10 timings)) (drop 10 timings)) ⌝ }
+fn put_last_timings(buffer: &mut [u8], at: usize, timings: [u32; 12])
+    ensures { λ _. ⌜ now (buffer .exit) ≡ stored (now (buffer .entry)) at (numbersIn (lastWidth (drop 10 timings)) (drop 10 timings)) ⌝ }
 {
-    if room.len() <= at {
+    if buffer.len() <= at {
         return;
     }
     let width = eb_sizes::group_sizes::last_width(timings);
-    octets::put::put_le(room, at, width, timings[10] as u64);
-    octets::put::put_le(room, at + width as usize, width, timings[11] as u64);
+    octets::put::put_le(buffer, at, width, timings[10] as u64);
+    octets::put::put_le(buffer, at + width as usize, width, timings[11] as u64);
 }
 
-fn put_timings(room: &mut [u8], at: usize, timings: [u32; 12])
-    ensures { λ _. ⌜ now (room .exit) ≡ stored (now (room .entry)) at (timingsBytes timings) ⌝ }
+fn put_timings(buffer: &mut [u8], at: usize, timings: [u32; 12])
+    ensures { λ _. ⌜ now (buffer .exit) ≡ stored (now (buffer .entry)) at (timingsBytes timings) ⌝ }
 {
-    if room.len() <= at {
+    if buffer.len() <= at {
         return;
     }
-    put_first_timings(room, at, timings);
-    put_last_timings(room, at + 20, timings);
+    put_first_timings(buffer, at, timings);
+    put_last_timings(buffer, at + 20, timings);
 }
 
 // The timeslot element: its descriptor and ID as one number of three bytes, then the timings if they are there.
-pub fn put_template(room: &mut [u8], at: usize, template: TimeslotTemplate)
-    ensures { λ _. ⌜ now (room .exit) ≡ stored (now (room .entry)) at (templateBytes template) ⌝ }
+pub fn put_template(buffer: &mut [u8], at: usize, template: TimeslotTemplate)
+    ensures { λ _. ⌜ now (buffer .exit) ≡ stored (now (buffer .entry)) at (templateBytes template) ⌝ }
 {
-    if room.len() <= at {
+    if buffer.len() <= at {
         return;
     }
     let timings = template.timings;
     let size = eb_sizes::group_sizes::template_size(template);
-    octets::put::put_le(room, at, 3, size as u64 + 7168 + template.id as u64 * 65536);
+    octets::put::put_le(
+        buffer,
+        at,
+        3,
+        size as u64 + 7168 + template.id as u64 * 65536,
+    );
     if template.timed {
-        put_timings(room, at + 3, timings);
+        put_timings(buffer, at + 3, timings);
         return;
     }
 }

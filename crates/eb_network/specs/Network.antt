@@ -7,7 +7,7 @@ use Rattle.refusal.specs.Refusal.{done}
 use Rattle.eb_decode_spec.specs.Decode.{networkOffset}
 use Rattle.eb_read_spec.specs.Read.{examined}
 
--- the bytes from `skip` places behind a place to another place, if they are all there
+-- the bytes from `skip` offsets behind an offset to another offset, if they are all there
 unfoldable pub partOf : List ℕ → ℕ → ℕ → ℕ → List ℕ
 partOf s at skip to = ifLt to (at + skip) [] (ifLt (length s) to [] (take (to - (at + skip)) (drop (at + skip) s)))
 

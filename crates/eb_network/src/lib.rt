@@ -6,7 +6,7 @@ use refusal::DONE;
 
 pub mod network_start;
 
-// The part from `skip` bytes behind a place to another place.
+// The part from `skip` bytes behind an offset to another offset.
 fn part(s: &[u8], at: usize, skip: usize, to: usize) -> &[u8]
     requires { ⌜ skip ≤ 12 ⌝ }
     ensures { λ r. ⌜ now r ≡ partOf (now (s .entry)) at skip to ⌝ }

@@ -1,4 +1,4 @@
-// Decoding: from the bytes of a frame and the places that the walk noted to the record. Every function answers every place: bytes past
+// Decoding: from the bytes of a frame and the offsets that the walk noted to the record. Every function answers every offset: bytes past
 // the end of the frame count as 0.
 ghost use mathlib.Core.Path.{_≡_};
 ghost use Prim.Native.Nat.{_+_, _-_, _<_, _≤_, _^_, min};
@@ -7,8 +7,8 @@ ghost use Rattle.octets_spec.specs.Choice.{ifEq};
 ghost use Rattle.octets_spec.specs.Number.{leAt, beAt};
 ghost use Rattle.octets_spec.specs.Counted.{counted, padded};
 ghost use Rattle.eb_record_spec.specs.Record.{blankLink};
-ghost use Rattle.eb_decode_spec.specs.Decode.{sequenceOf, sourceOf, synchronizationAt, timingAt, templateAt, linkAt, slotframeAt, joiningAt, openingOf, decoded};
-use eb_decode_spec::Opening;
+ghost use Rattle.eb_decode_spec.specs.Decode.{sequenceOf, sourceOf, synchronizationAt, timingAt, templateAt, linkAt, slotframeAt, joiningAt, macHeaderOf, decoded};
+use eb_decode_spec::MacHeader;
 use eb_record_spec::Address;
 use eb_record_spec::Beacon;
 use eb_record_spec::JoiningInformation;
@@ -19,7 +19,7 @@ use eb_record_spec::Synchronization;
 use eb_record_spec::TimeslotTemplate;
 use ie_walk_spec::Walk;
 
-// The byte k places behind a place.
+// The byte k offsets behind an offset.
 fn byte_at(s: &[u8], at: usize, k: usize) -> u64
     requires { ⌜ k < 256 ⌝ }
     ensures { λ r. ⌜ (r ≡ getD (now (s .entry)) (at + k) 0) × (r < 256) ⌝ }
@@ -30,7 +30,7 @@ fn byte_at(s: &[u8], at: usize, k: usize) -> u64
     octets::get::byte(s, at + k)
 }
 
-// The number k places behind a place, least significant byte first.
+// The number k offsets behind an offset, least significant byte first.
 fn le_at(s: &[u8], at: usize, k: usize, width: u8) -> u64
     requires { ⌜ k < 256 ⌝ }
     ensures { λ r. ⌜ (r ≡ leAt (min width 8) (now (s .entry)) (at + k)) × (r < 256 ^ min width 8) ⌝ }
@@ -41,7 +41,7 @@ fn le_at(s: &[u8], at: usize, k: usize, width: u8) -> u64
     octets::get::le(s, at + k, width)
 }
 
-// The number k places behind a place, most significant byte first.
+// The number k offsets behind an offset, most significant byte first.
 fn be_at(s: &[u8], at: usize, k: usize, width: u8) -> u64
     requires { ⌜ k < 256 ⌝ }
     ensures { λ r. ⌜ (r ≡ beAt (min width 8) (now (s .entry)) (at + k)) × (r < 256 ^ min width 8) ⌝ }
@@ -70,14 +70,14 @@ fn source(s: &[u8], mode: u64, at: usize) -> Address
     Address::Short(octets::get::le(s, at, 2) as u16)
 }
 
-fn open(s: &[u8]) -> Opening
-    ensures { λ r. ⌜ r ≡ openingOf (now (s .entry)) ⌝ }
+fn open(s: &[u8]) -> MacHeader
+    ensures { λ r. ⌜ r ≡ macHeaderOf (now (s .entry)) ⌝ }
 {
     let control = mac_header::control_of(octets::get::le(s, 0, 2));
-    let places = mac_header::places_of(control);
-    let pan = places.pan;
-    let at = places.source;
-    Opening {
+    let offsets = mac_header::offsets_of(control);
+    let pan = offsets.pan;
+    let at = offsets.source;
+    MacHeader {
         sequence: sequence(s, control.suppressed),
         pan: octets::get::le(s, pan, 2) as u16,
         source: source(s, control.source, at),
@@ -152,7 +152,7 @@ fn link(s: &[u8], at: usize, i: usize) -> Link
 {
     Link {
         timeslot: le_at(s, at, 5 + 5 * i, 2) as u16,
-        offset: le_at(s, at, 7 + 5 * i, 2) as u16,
+        channel_offset: le_at(s, at, 7 + 5 * i, 2) as u16,
         options: byte_at(s, at, 9 + 5 * i) as u8,
     }
 }
@@ -209,7 +209,7 @@ fn proxy_address(s: &[u8], at: usize, proxied: u64) -> u64
     0
 }
 
-// The length of the network ID of joining information that lies from a place to another, where `skip` bytes stand before it.
+// The length of the network ID of joining information that lies from an offset to another, where `skip` bytes stand before it.
 fn network_length(at: usize, to: usize, skip: usize) -> usize
     ensures { λ r. ⌜ (r ≡ min (to - at - skip) 16) × (r ≤ 16) ⌝ }
 {
@@ -243,7 +243,7 @@ fn joining(s: &[u8], at: usize, to: usize) -> JoiningInformation
     }
 }
 
-// The record, from the places that the walk noted.
+// The record, from the offsets that the walk noted.
 pub fn decode(s: &[u8], w: Walk) -> Beacon
     ensures { λ r. ⌜ r ≡ decoded (now (s .entry)) w ⌝ }
 {

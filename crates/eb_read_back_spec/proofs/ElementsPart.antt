@@ -43,11 +43,11 @@ noted-still s b w from to n = record { fine = n .fine; all = n .all; synchroniza
 
 module _ (s : List ℕ) (at end : ℕ) (b : Beacon) (sized : Sized b) (w : Within b) (ends : end ≡ at + 2 + (2 + beaconGroupSize b) + ifOn (b .joining .present) (2 + joiningSize (b .joining)) 0)
     (h : Stands s at (headerDescriptor 126 0 ++ (beaconGroup b ++ joiningBytes (b .joining)))) where
-  room : at + 2 + 2 + beaconGroupSize b ≤ end
-  room = omega arith
+  buffer : at + 2 + 2 + beaconGroupSize b ≤ end
+  buffer = omega arith
 
   list : (header.Payload (at + 2) ≡ headerAt s at end) × Stands s (at + 2) (beaconGroup b ++ joiningBytes (b .joining))
-  list = head-payload s _ at end (omega (arith, room)) h
+  list = head-payload s _ at end (omega (arith, buffer)) h
 
   -- the end of the group
   abbrev to : ℕ
@@ -57,18 +57,18 @@ module _ (s : List ℕ) (at end : ℕ) (b : Beacon) (sized : Sized b) (w : Withi
   group = stands-split s (beaconGroup b) (joiningBytes (b .joining)) (at + 2) (beaconGroupSize b) (length-group (b .synchronization) (b .timeslot) (b .hopping) (b .slotframe) (sized .timings) (sized .links) (w .slotframe .few)) (list .1)
 
   -- what the payload list behind the group gives, all elements give
-  gives : (r : Walk) → OuterIs s to end (pastGroup s (at + 2) end b sized w room (group .0)) r → r ≡ elementsWalk s at end
+  gives : (r : Walk) → OuterIs s to end (pastGroup s (at + 2) end b sized w buffer (group .0)) r → r ≡ elementsWalk s at end
   unfolding blankWalk headedWalk
   gives r go =
       let head : Headed = record { fault = 0; faulty = 0; skipped = 0; payload = at + 2 } in
       header-and-payload s at end head blankWalk (header-payload s at end at 0 (header.Payload (at + 2)) (list .0) (at + 2) refl (header-start s at end)) refl refl r (λ (z : at + 2 ≡ 0). omega arith)
-      (payload-is s (at + 2) end blankWalk r (omega (arith, room)) (group-passes s (at + 2) end b sized w room (group .0) r go))
+      (payload-is s (at + 2) end blankWalk r (omega (arith, buffer)) (group-passes s (at + 2) end b sized w buffer (group .0) r go))
 
   abbrev before : Walk
-  before = pastGroup s (at + 2) end b sized w room (group .0)
+  before = pastGroup s (at + 2) end b sized w buffer (group .0)
 
   noted : Noted s b before
-  noted = group-noted s (at + 2) end b sized w room (group .0)
+  noted = group-noted s (at + 2) end b sized w buffer (group .0)
 
   -- ---- without joining information
   module _ (absent : b .joining .present ≡ false) where
@@ -80,7 +80,7 @@ module _ (s : List ℕ) (at end : ℕ) (b : Beacon) (sized : Sized b) (w : Withi
 
     elements-without : Elements s b (elementsWalk s at end)
     elements-without =
-        rw (← walk-without) (record { noted = noted; joining = w .absent absent ∙ joining-none s _ _ blankBeacon refl (group-fresh s (at + 2) end b sized w room (group .0)) })
+        rw (← walk-without) (record { noted = noted; joining = w .absent absent ∙ joining-none s _ _ blankBeacon refl (group-fresh s (at + 2) end b sized w buffer (group .0)) })
 
   -- ---- with it
   module _ (present : b .joining .present ≡ true) where
@@ -100,7 +100,7 @@ module _ (s : List ℕ) (at end : ℕ) (b : Beacon) (sized : Sized b) (w : Withi
         (outer-none s to end before (to + 2 + joiningSize (b .joining)) after outer.End (outer-end s _ end (omega (arith, last))) refl
         (joining-turn s to end before to before (outer.Joining (to + 2 + 1) (to + 2 + joiningSize (b .joining)))
         (part .step) (to + 2 + 1) (to + 2 + joiningSize (b .joining)) (refl, part .some, omega (arith, last)) refl after
-        (takes s before 258 _ _ to (part .fine (seenOf before) (group-fresh s (at + 2) end b sized w room (group .0)))) (noted .fine) (outer-start s to end before (omega (arith, last)))))
+        (takes s before 258 _ _ to (part .fine (seenOf before) (group-fresh s (at + 2) end b sized w buffer (group .0)))) (noted .fine) (outer-start s to end before (omega (arith, last)))))
 
     elements-with : Elements s b (elementsWalk s at end)
     unfolding after taken ifEq

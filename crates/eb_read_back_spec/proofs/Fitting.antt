@@ -113,21 +113,21 @@ template-within t sized h =
 -- ---- slotframe
 pub record LinkWithin (size : ℕ) (l : Link) : Type 0 where
   pub timeslot : l .timeslot < size
-  pub offset : l .offset < 2 ^ 16
+  pub «channel_offset» : l .«channel_offset» < 2 ^ 16
   pub options : l .options < 256
 
 link-within : (size : ℕ) (l : Link) → linkFits size l ≡ true → LinkWithin size l
 unfolding linkFits
 link-within size l h =
-    let k = each (ltb (l .timeslot) size ∷ ltb (l .offset) (2 ^ 16) ∷ ltb (l .options) 256 ∷ []) h in
-    record { timeslot = ltb-true _ _ (k 0); offset = ltb-true _ _ (k 1); options = ltb-true _ _ (k 2) }
+    let k = each (ltb (l .timeslot) size ∷ ltb (l .«channel_offset») (2 ^ 16) ∷ ltb (l .options) 256 ∷ []) h in
+    record { timeslot = ltb-true _ _ (k 0); «channel_offset» = ltb-true _ _ (k 1); options = ltb-true _ _ (k 2) }
 
 link-unused : (l : Link) → linkUnused l ≡ true → l ≡ blankLink
 unfolding linkUnused
 link-unused l h =
-    let k = each (eqb (l .timeslot) 0 ∷ eqb (l .offset) 0 ∷ eqb (l .options) 0 ∷ []) h in
-    let e : _≡_ {A = Link} (record { timeslot = l .timeslot; offset = l .offset; options = l .options }) blankLink =
-    rw (eqb-true (l .timeslot) 0 (k 0), eqb-true (l .offset) 0 (k 1), eqb-true (l .options) 0 (k 2)) in
+    let k = each (eqb (l .timeslot) 0 ∷ eqb (l .«channel_offset») 0 ∷ eqb (l .options) 0 ∷ []) h in
+    let e : _≡_ {A = Link} (record { timeslot = l .timeslot; «channel_offset» = l .«channel_offset»; options = l .options }) blankLink =
+    rw (eqb-true (l .timeslot) 0 (k 0), eqb-true (l .«channel_offset») 0 (k 1), eqb-true (l .options) 0 (k 2)) in
     e
 
 pub record SlotframeWithin (f : Slotframe) : Type 0 where

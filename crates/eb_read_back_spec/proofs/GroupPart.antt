@@ -44,7 +44,7 @@ none-missing w a b c d =
     if-ne _ _ _ _ (λ (z : w .synchronization ≡ 0). omega arith)
     (if-ne _ _ _ _ (λ (z : w .timeslot ≡ 0). omega arith) (if-ne _ _ _ _ (λ (z : w .hopping ≡ 0). omega arith) (if-ne _ _ _ _ (λ (z : w .slotframe ≡ 0). omega arith) refl)))
 
-module _ (s : List ℕ) (at end : ℕ) (b : Beacon) (sized : Sized b) (w : Within b) (room : at + 2 + beaconGroupSize b ≤ end) (h : Stands s at (beaconGroup b)) where
+module _ (s : List ℕ) (at end : ℕ) (b : Beacon) (sized : Sized b) (w : Within b) (buffer : at + 2 + beaconGroupSize b ≤ end) (h : Stands s at (beaconGroup b)) where
   -- where its elements start, and where it ends
   abbrev first : ℕ
   first = at + 2
@@ -73,7 +73,7 @@ module _ (s : List ℕ) (at end : ℕ) (b : Beacon) (sized : Sized b) (w : Withi
   enters : (outer.Group (at + 2) (at + 2 + beaconGroupSize b) ≡ outerAt s at end)
       × Stands s first (synchronizationBytes (b .synchronization) ++ (templateBytes (b .timeslot) ++ (hoppingBytes (b .hopping) ++ slotframeBytes (b .slotframe))))
   unfolding groupBytes groupOf
-  enters = head-group s _ at end (beaconGroupSize b) room 1 (outer.Group (at + 2) (at + 2 + beaconGroupSize b)) (omega arith) size-small (λ k. if-eq _ _ 1 1 refl refl) h
+  enters = head-group s _ at end (beaconGroupSize b) buffer 1 (outer.Group (at + 2) (at + 2 + beaconGroupSize b)) (omega arith) size-small (λ k. if-eq _ _ 1 1 refl refl) h
 
   at-first : Stands s first (synchronizationBytes (b .synchronization)) × Stands s second (templateBytes (b .timeslot) ++ (hoppingBytes (b .hopping) ++ slotframeBytes (b .slotframe)))
   at-first = stands-split s (synchronizationBytes (b .synchronization)) _ first 6 (length-synchronization (b .synchronization)) (enters .1)
@@ -119,12 +119,12 @@ module _ (s : List ℕ) (at end : ℕ) (b : Beacon) (sized : Sized b) (w : Withi
       part-passes s first to end blankWalk fourth pastThird _ _ _ fourth-part (omega (arith, last-is)) refl refl
       (part-passes s first to end blankWalk third pastSecond _ _ _ third-part (omega (arith, last-is)) refl refl
       (part-passes s first to end blankWalk second pastFirst _ _ _ second-part (omega (arith, last-is)) refl refl
-      (part-passes s first to end blankWalk first blankWalk _ _ _ first-part (omega (arith, last-is)) refl refl (group-start s first to end blankWalk (omega arith) room))))
+      (part-passes s first to end blankWalk first blankWalk _ _ _ first-part (omega (arith, last-is)) refl refl (group-start s first to end blankWalk (omega arith) buffer))))
 
   -- what the list behind the group gives from there, the list from the group on gives
   pub group-passes : (r : Walk) → OuterIs s to end pastGroup r → OuterIs s at end blankWalk r
   group-passes r go =
-      outer-enter s at end blankWalk at blankWalk (outer.Group (at + 2) to) (enters .0) (at + 2) to (refl, omega arith, room) refl r
+      outer-enter s at end blankWalk at blankWalk (outer.Group (at + 2) to) (enters .0) (at + 2) to (refl, omega arith, buffer) refl r
       (group-back s first to end blankWalk last pastGroup inner.Back (inner-end s last to (omega (arith, last-is))) r refl go leads) (outer-start s at end blankWalk (omega arith))
 
   pub group-fresh : pastGroup .joining ≡ 0

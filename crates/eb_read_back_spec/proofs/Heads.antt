@@ -30,14 +30,14 @@ module _ (s rest : List ℕ) (at end : ℕ) where
   -- the terminator 0x7E of the header list
   pub head-payload : at + 2 ≤ end → Stands s at (headerDescriptor 126 0 ++ rest) → (header.Payload (at + 2) ≡ headerAt s at end) × Stands s (at + 2) rest
   unfolding headerDescriptor headerWord ifEq
-  head-payload room h =
+  head-payload buffer h =
       let read = le-here 2 16128 s rest at (omega arith) h in (
         header-here s at end 16128 (omega arith) (omega arith) (read .0) _
             (if-ge _ _ (end - (at + 2)) 0 (omega arith) refl),
         read .1,
       )
 
-  module _ (size : ℕ) (room : at + 2 + size ≤ end) where
+  module _ (size : ℕ) (buffer : at + 2 + size ≤ end) where
     -- a group that is not the end of the payload list: what stands behind its descriptor may say which it is
     pub head-group : (group : ℕ) (r : OuterStep) → group < 15 → size < 2048 → (Stands s (at + 2) rest → r ≡ groupOf s group (at + 2) (at + 2 + size))
         → Stands s at (groupDescriptor group size ++ rest) → (r ≡ outerAt s at end) × Stands s (at + 2) rest

@@ -16,10 +16,10 @@ use Rattle.eb_read_back_spec.proofs.Stands.{Stands, le-last, byte-is}
 use Rattle.eb_read_back_spec.proofs.Heads.{head-long}
 use Rattle.eb_read_back_spec.proofs.Steps.{Part}
 
-module _ (s : List ℕ) (at to id : ℕ) (fits : id < 256) (room : at + 2 + 1 ≤ to) (h : Stands s at (hoppingBytes id)) where
+module _ (s : List ℕ) (at to id : ℕ) (fits : id < 256) (buffer : at + 2 + 1 ≤ to) (h : Stands s at (hoppingBytes id)) where
   content : (inner.Part 137 (at + 2) (at + 2 + 1) ≡ innerAt s at to) × Stands s (at + 2) (leBytes 1 id)
   unfolding hoppingBytes
-  content = head-long s _ at to 1 room 9 (omega arith) (omega arith) h
+  content = head-long s _ at to 1 buffer 9 (omega arith) (omega arith) h
 
   hopping-reads : id ≡ getD s (at + 2) 0
   hopping-reads = byte-is s _ _ (le-last 1 id s (at + 2) fits (content .1))

@@ -64,7 +64,7 @@ word-parts r p proxy rank pan r-bit p-bit a b c =
       first = rw (k₅, k₆, k₇) (omega arith);
     }
 
--- joining information that stands at a place of the payload list: its descriptor and subtype lead to it, it has no fault where none was
+-- joining information that stands at an offset of the payload list: its descriptor and subtype lead to it, it has no fault where none was
 -- taken, and it reads back
 pub record JoiningPart (s : List ℕ) (at end : ℕ) (j : JoiningInformation) : Type 0 where
   pub some : at + 2 + 1 ≤ at + 2 + joiningSize j
@@ -72,7 +72,7 @@ pub record JoiningPart (s : List ℕ) (at end : ℕ) (j : JoiningInformation) : 
   pub fine : (before : Seen) → before .joining ≡ 0 → 0 ≡ partFault s 258 (at + 2 + 1) (at + 2 + joiningSize j) before
   pub reads : j ≡ joiningAt s (at + 2 + 1) (at + 2 + joiningSize j)
 
-module _ (s : List ℕ) (at end : ℕ) (j : JoiningInformation) (sized : length (j .network) ≡ 16) (there : j .present ≡ true) (w : PresentWithin j) (room : at + 2 + joiningSize j ≤ end) (h : Stands s at (joiningBytes j)) where
+module _ (s : List ℕ) (at end : ℕ) (j : JoiningInformation) (sized : length (j .network) ≡ 16) (there : j .present ≡ true) (w : PresentWithin j) (buffer : at + 2 + joiningSize j ≤ end) (h : Stands s at (joiningBytes j)) where
   -- where it lies, and P as a bit
   abbrev from : ℕ
   from = at + 2 + 1
@@ -111,7 +111,7 @@ module _ (s : List ℕ) (at end : ℕ) (j : JoiningInformation) (sized : length 
   step : (outer.Joining from (at + 2 + joiningSize j) ≡ outerAt s at end) × Stands s (at + 2) (leBytes 1 2 ++ behind)
   unfolding groupOf ifEq
   step =
-      head-group s _ at end (joiningSize j) room 5 (outer.Joining from (at + 2 + joiningSize j)) (omega arith) (omega (arith, size-is, small, w .few))
+      head-group s _ at end (joiningSize j) buffer 5 (outer.Joining from (at + 2 + joiningSize j)) (omega arith) (omega (arith, size-is, small, w .few))
       (λ k. if-ne _ _ (at + 2) (at + 2 + joiningSize j) (λ (z : at + 2 ≡ at + 2 + joiningSize j). omega (arith, size-is)) (if-eq _ _ (getD s (at + 2) 0) 2 (sym (subtype k .0)) refl)) content
 
   word : (joiningWord j ≡ beAt 4 s from) × Stands s (from + 4) (ifOn (j .proxied) (beBytes 8 (j .address)) [] ++ used)
@@ -133,8 +133,8 @@ module _ (s : List ℕ) (at end : ℕ) (j : JoiningInformation) (sized : length 
   network : (i : ℕ) → i < j .length → getD (j .network) i 0 ≡ getD s (from + (4 + 8 * p + i)) 0
   network i l =
       let all : length used ≡ j .length = length-take-le (j .length) (j .network) (omega (arith, w .few)) in
-      let place : from + (4 + 8 * p) + i ≡ from + (4 + 8 * p + i) = omega arith in
-      sym (rw (getD-take (j .length) (j .network) i 0 l, place) at (stands-byte s used (from + (4 + 8 * p)) i (omega arith) (address .1)))
+      let offset : from + (4 + 8 * p) + i ≡ from + (4 + 8 * p + i) = omega arith in
+      sym (rw (getD-take (j .length) (j .network) i 0 l, offset) at (stands-byte s used (from + (4 + 8 * p)) i (omega arith) (address .1)))
 
   -- ---- the element
   fine : (before : Seen) → before .joining ≡ 0 → 0 ≡ partFault s 258 from (at + 2 + joiningSize j) before

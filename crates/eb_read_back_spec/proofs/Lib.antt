@@ -1,7 +1,7 @@
 pub mod Stands
 pub mod Rows
 pub mod Fitting
-pub mod OpeningFields
+pub mod MacHeaderFields
 pub mod Heads
 pub mod Steps
 pub mod SynchronizationPart

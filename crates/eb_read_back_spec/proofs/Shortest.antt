@@ -10,7 +10,7 @@ use Rattle.eb_record_spec.specs.Record.{blankLink}
 use Rattle.eb_record_spec.specs.declared.SequenceNumber.the-variants.{Absent, Number}
 use Rattle.eb_record_spec.specs.declared.Address.the-variants.{Short, Extended}
 use Rattle.eb_record_spec.specs.declared.Beacon.{Beacon}
-use Rattle.eb_frame_spec.specs.Frame.{suppressedBit, sequenceBytes, sourceMode, sourceBytes, controlWord, openingBytes, headerDescriptor, groupDescriptor, shortDescriptor, longDescriptor, numbersIn, synchronizationBytes, lastWidth, timingsBytes, templateSize, templateBytes, hoppingBytes, linkBytes, linksBytes, slotframeBytes, groupSize, groupBytes, joiningWord, joiningSize, joiningBytes, frameOf, frameLength}
+use Rattle.eb_frame_spec.specs.Frame.{suppressedBit, sequenceBytes, sourceMode, sourceBytes, controlWord, macHeaderBytes, headerDescriptor, groupDescriptor, shortDescriptor, longDescriptor, numbersIn, synchronizationBytes, lastWidth, timingsBytes, templateSize, templateBytes, hoppingBytes, linkBytes, linksBytes, slotframeBytes, groupSize, groupBytes, joiningWord, joiningSize, joiningBytes, frameOf, frameLength}
 use Rattle.eb_frame_spec.specs.Limits.{allOf, allBelow, sequenceFits, sourceFits, synchronizationFits, templateFits, linkFits, linkUnused, slotframeFits, addressFits, presentFits, absentFits, joiningFits, fits}
 use Rattle.eb_read_back_spec.specs.ReadBack.{Writable, LengthsAreMet, FullRecordIsWritable}
 
@@ -23,7 +23,7 @@ small = record {
   synchronization = record { asn = 256; metric = 2 };
   timeslot = record { id = 0; timed = false; timings = replicate 12 0 };
   hopping = 0;
-  slotframe = record { handle = 0; size = 11; count = 1; links = record { timeslot = 0; offset = 0; options = 15 } ∷ replicate 15 blankLink };
+  slotframe = record { handle = 0; size = 11; count = 1; links = record { timeslot = 0; «channel_offset» = 0; options = 15 } ∷ replicate 15 blankLink };
   joining = record { present = false; router = false; proxied = false; proxy = 0; rank = 0; pan = 0; address = 0; length = 0; network = replicate 16 0 };
 }
 
@@ -36,7 +36,7 @@ large = record {
   synchronization = record { asn = 1099511627775; metric = 255 };
   timeslot = record { id = 7; timed = true; timings = replicate 10 65535 ++ (65536 ∷ 16777215 ∷ []) };
   hopping = 3;
-  slotframe = record { handle = 1; size = 65535; count = 16; links = replicate 16 (record { timeslot = 65534; offset = 65535; options = 255 }) };
+  slotframe = record { handle = 1; size = 65535; count = 16; links = replicate 16 (record { timeslot = 65534; «channel_offset» = 65535; options = 255 }) };
   joining = record { present = true; router = true; proxied = true; proxy = 127; rank = 4095; pan = 255; address = 18446744073709551615; length = 16; network = replicate 16 255 };
 }
 
@@ -49,12 +49,12 @@ full = record {
   synchronization = record { asn = 1099511627775; metric = 255 };
   timeslot = record { id = 1; timed = true; timings = replicate 10 65535 ++ (65536 ∷ 16777215 ∷ []) };
   hopping = 3;
-  slotframe = record { handle = 1; size = 101; count = 3; links = replicate 3 (record { timeslot = 100; offset = 65535; options = 255 }) ++ replicate 13 blankLink };
+  slotframe = record { handle = 1; size = 101; count = 3; links = replicate 3 (record { timeslot = 100; «channel_offset» = 65535; options = 255 }) ++ replicate 13 blankLink };
   joining = record { present = true; router = true; proxied = true; proxy = 127; rank = 4095; pan = 255; address = 18446744073709551615; length = 4; network = replicate 4 255 ++ replicate 12 0 };
 }
 
 small-writable : Writable small
-unfolding sequenceBytes suppressedBit sourceMode sourceBytes controlWord openingBytes headerDescriptor groupDescriptor shortDescriptor longDescriptor numbersIn synchronizationBytes lastWidth timingsBytes templateSize templateBytes hoppingBytes linkBytes linksBytes slotframeBytes groupSize groupBytes joiningWord joiningSize joiningBytes frameOf leBytes beBytes ifOn ifLt allOf allBelow sequenceFits sourceFits synchronizationFits templateFits linkFits linkUnused slotframeFits addressFits presentFits absentFits joiningFits fits
+unfolding sequenceBytes suppressedBit sourceMode sourceBytes controlWord macHeaderBytes headerDescriptor groupDescriptor shortDescriptor longDescriptor numbersIn synchronizationBytes lastWidth timingsBytes templateSize templateBytes hoppingBytes linkBytes linksBytes slotframeBytes groupSize groupBytes joiningWord joiningSize joiningBytes frameOf leBytes beBytes ifOn ifLt allOf allBelow sequenceFits sourceFits synchronizationFits templateFits linkFits linkUnused slotframeFits addressFits presentFits absentFits joiningFits fits
 small-writable = record { sized = record { timings = refl; links = refl; network = refl }; within = refl; short = omega arith }
 
 small-38 : frameLength small ≡ 38
@@ -73,7 +73,7 @@ pub lengths-are-met : LengthsAreMet
 lengths-are-met = ((small, small-writable, small-38), (large, large-fits, large-177))
 
 full-writable : Writable full
-unfolding sequenceBytes suppressedBit sourceMode sourceBytes controlWord openingBytes headerDescriptor groupDescriptor shortDescriptor longDescriptor numbersIn synchronizationBytes lastWidth timingsBytes templateSize templateBytes hoppingBytes linkBytes linksBytes slotframeBytes groupSize groupBytes joiningWord joiningSize joiningBytes frameOf leBytes beBytes ifOn ifLt allOf allBelow sequenceFits sourceFits synchronizationFits templateFits linkFits linkUnused slotframeFits addressFits presentFits absentFits joiningFits fits
+unfolding sequenceBytes suppressedBit sourceMode sourceBytes controlWord macHeaderBytes headerDescriptor groupDescriptor shortDescriptor longDescriptor numbersIn synchronizationBytes lastWidth timingsBytes templateSize templateBytes hoppingBytes linkBytes linksBytes slotframeBytes groupSize groupBytes joiningWord joiningSize joiningBytes frameOf leBytes beBytes ifOn ifLt allOf allBelow sequenceFits sourceFits synchronizationFits templateFits linkFits linkUnused slotframeFits addressFits presentFits absentFits joiningFits fits
 full-writable = record { sized = record { timings = refl; links = refl; network = refl }; within = refl; short = omega arith }
 
 pub full-record-is-writable : FullRecordIsWritable

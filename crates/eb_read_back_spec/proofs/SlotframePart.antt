@@ -37,10 +37,10 @@ link-reads : (s : List ℕ) (at i size : ℕ) (l : Link) → size < 2 ^ 16 → L
 unfolding linkBytes
 link-reads s at i size l short w h =
     let timeslot = le-first 2 (l .timeslot) s _ at (5 + 5 * i) (omega (arith, w .timeslot)) h in
-    let offset = le-first 2 (l .offset) s _ at (5 + 5 * i + 2) (w .offset) (timeslot .1) in
+    let offset = le-first 2 (l .«channel_offset») s _ at (5 + 5 * i + 2) (w .«channel_offset») (timeslot .1) in
     let second : 5 + 5 * i + 2 ≡ 7 + 5 * i = omega arith in
     let third : 5 + 5 * i + 2 + 2 ≡ 9 + 5 * i = omega arith in
-    links-at s at i (l .timeslot) (l .offset) (l .options) (timeslot .0) (rw second at (offset .0)) (byte-is s _ _ (le-last 1 (l .options) s _ (w .options) (rw third at (offset .1))))
+    links-at s at i (l .timeslot) (l .«channel_offset») (l .options) (timeslot .0) (rw second at (offset .0)) (byte-is s _ _ (le-last 1 (l .options) s _ (w .options) (rw third at (offset .1))))
 
 -- the timeslots of links that are each below the size are so
 timeslots-fit : (s : List ℕ) (at n size : ℕ) → ((i : ℕ) → i < n → leAt 2 s (at + 5 * i) < size) → true ≡ timeslotsFit s at n size
@@ -48,7 +48,7 @@ unfolding timeslotsFit
 timeslots-fit s at zero size below = refl
 timeslots-fit s at (suc n) size below =
     let first : leAt 2 s at < size = rw (add-zero at) at (below 0 (omega arith)) in
-    rw (lt-ltb _ _ first) (timeslots-fit s (at + 5) n size (λ i l. let place : at + 5 * suc i ≡ at + 5 + 5 * i = omega arith in rw place at (below (suc i) (omega arith))))
+    rw (lt-ltb _ _ first) (timeslots-fit s (at + 5) n size (λ i l. let offset : at + 5 * suc i ≡ at + 5 + 5 * i = omega arith in rw offset at (below (suc i) (omega arith))))
 
 -- the shape and the limits of what is written
 shaped : (count : ℕ) → 0 ≡ slotframeShape (5 + 5 * count) 1 count
@@ -61,7 +61,7 @@ limited size count positive some few =
     if-ne _ _ _ _ (λ (z : size ≡ 0). omega arith) (if-ne _ _ _ _ (λ (z : count ≡ 0). omega arith) (if-ge _ _ _ _ (omega arith) (if-on _ _ true refl refl)))
 
 -- ---- the element
-module _ (s : List ℕ) (at to : ℕ) (f : Slotframe) (sized : length (f .links) ≡ 16) (w : SlotframeWithin f) (room : at + 2 + (5 + 5 * f .count) ≤ to) (h : Stands s at (slotframeBytes f)) where
+module _ (s : List ℕ) (at to : ℕ) (f : Slotframe) (sized : length (f .links) ≡ 16) (w : SlotframeWithin f) (buffer : at + 2 + (5 + 5 * f .count) ≤ to) (h : Stands s at (slotframeBytes f)) where
   abbrev from : ℕ
   from = at + 2
 
@@ -71,7 +71,7 @@ module _ (s : List ℕ) (at to : ℕ) (f : Slotframe) (sized : length (f .links)
   content : (inner.Part 27 from (from + (5 + 5 * f .count)) ≡ innerAt s at to)
       × Stands s from (leBytes 1 1 ++ (leBytes 1 (f .handle) ++ (leBytes 2 (f .size) ++ (leBytes 1 (f .count) ++ linksBytes used))))
   unfolding slotframeBytes
-  content = head-short s _ at to (5 + 5 * f .count) room 27 (omega arith) (omega (arith, w .few)) h
+  content = head-short s _ at to (5 + 5 * f .count) buffer 27 (omega arith) (omega (arith, w .few)) h
 
   -- its fields in their order
   fields : (1 ≡ getD s from 0) × (f .handle ≡ getD s (from + 1) 0) × (f .size ≡ leAt 2 s (from + 2)) × (f .count ≡ getD s (from + 4) 0) × Stands s (from + 5) (linksBytes used)
@@ -86,17 +86,17 @@ module _ (s : List ℕ) (at to : ℕ) (f : Slotframe) (sized : length (f .links)
   link-is i l =
       let all : length used ≡ f .count = length-take-le (f .count) (f .links) (omega (arith, w .few)) in
       let there = row-entry linkBytes 5 length-link s used blankLink (from + 5) i (omega arith) (rw (links-row used) at (fields .4)) in
-      let place : from + 5 + 5 * i ≡ from + (5 + 5 * i) = omega arith in
-      link-reads s from i (f .size) _ (w .size) (w .used i l) (rw (getD-take (f .count) (f .links) i blankLink l, place) at there)
+      let offset : from + 5 + 5 * i ≡ from + (5 + 5 * i) = omega arith in
+      link-reads s from i (f .size) _ (w .size) (w .used i l) (rw (getD-take (f .count) (f .links) i blankLink l, offset) at there)
 
   below : true ≡ timeslotsFit s (from + 5) (f .count) (f .size)
   unfolding linkAt
   below =
       timeslots-fit s (from + 5) (f .count) (f .size)
       (λ i l.
-      let place : from + 5 + 5 * i ≡ from + (5 + 5 * i) = omega arith in
+      let offset : from + 5 + 5 * i ≡ from + (5 + 5 * i) = omega arith in
       let read : getD (f .links) i blankLink .timeslot ≡ leAt 2 s (from + (5 + 5 * i)) = ap (λ (k : Link). k .timeslot) (link-is i l) in
-      rw (place, ← read) (w .used i l .timeslot))
+      rw (offset, ← read) (w .used i l .timeslot))
 
   slotframe-reads : f ≡ slotframeAt s (at + 2)
   slotframe-reads =

@@ -1,4 +1,4 @@
--- Bytes that stand at a place of a list: the bridge from a frame as parts in a row to reading at places. What stands there can be split,
+-- Bytes that stand at an offset of a list: the bridge from a frame as parts in a row to reading at offsets. What stands there can be split,
 -- read byte by byte, and read as numbers, stated once over the width and the order of the bytes. Assumes nothing.
 use Prim.Native.Nat.{ℕ, zero, suc, _+_, _/_, _%_, _^_, _<_, _≤_}
 use mathlib.Core.Path.{_≡_, refl, sym, _∙_}
@@ -63,13 +63,13 @@ stands-stored s [] at h = refl
 stands-stored s (x ∷ xs) at h = let e = set-getD s at 0 in rw (← h .0, e) (stands-stored s xs (suc at) (h .1))
 
 -- ---- numbers
--- the first number of a row: it reads as itself, and the others stand behind it; at a place, and at an offset from one
+-- the first number of a row: it reads as itself, and the others stand behind it; at an offset, and at an offset from one
 module _ (bytesOf : ℕ → ℕ → List ℕ) (numberAt : ℕ → List ℕ → ℕ → ℕ) (sized : (width n : ℕ) → length (bytesOf width n) ≡ width) (back : ReadsBack bytesOf numberAt) where
   number-here : (width n : ℕ) (s ys : List ℕ) (at : ℕ) → n < 256 ^ width → Stands s at (bytesOf width n ++ ys) → (n ≡ numberAt width s at) × Stands s (at + width) ys
   number-here width n s ys at fits h =
       let here = stands-first s (bytesOf width n) ys at h in
-      let room : at + width ≤ length s = omega (arith, sized width n, stands-bound s (bytesOf width n) at here) in
-      let low = rw (stands-stored s (bytesOf width n) at here) at (back width n at s room) in
+      let buffer : at + width ≤ length s = omega (arith, sized width n, stands-bound s (bytesOf width n) at here) in
+      let low = rw (stands-stored s (bytesOf width n) at here) at (back width n at s buffer) in
       (sym (low ∙ mod-eq-of-lt fits), rw (sized width n) at (stands-rest s (bytesOf width n) ys at h))
 
   number-first : (width n : ℕ) (s ys : List ℕ) (at k : ℕ) → n < 256 ^ width → Stands s (at + k) (bytesOf width n ++ ys) → (n ≡ numberAt width s (at + k)) × Stands s (at + (k + width)) ys

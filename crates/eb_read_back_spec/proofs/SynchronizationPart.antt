@@ -19,10 +19,10 @@ use Rattle.eb_read_back_spec.proofs.Fitting.{SynchronizationWithin}
 use Rattle.eb_read_back_spec.proofs.Heads.{head-short}
 use Rattle.eb_read_back_spec.proofs.Steps.{Part}
 
-module _ (s : List ℕ) (at to : ℕ) (y : Synchronization) (w : SynchronizationWithin y) (room : at + 2 + 6 ≤ to) (h : Stands s at (synchronizationBytes y)) where
+module _ (s : List ℕ) (at to : ℕ) (y : Synchronization) (w : SynchronizationWithin y) (buffer : at + 2 + 6 ≤ to) (h : Stands s at (synchronizationBytes y)) where
   content : (inner.Part 26 (at + 2) (at + 2 + 6) ≡ innerAt s at to) × Stands s (at + 2) (leBytes 5 (y .asn) ++ leBytes 1 (y .metric))
   unfolding synchronizationBytes
-  content = head-short s _ at to 6 room 26 (omega arith) (omega arith) h
+  content = head-short s _ at to 6 buffer 26 (omega arith) (omega arith) h
 
   synchronization-reads : y ≡ synchronizationAt s (at + 2)
   synchronization-reads =

@@ -66,8 +66,8 @@ module _ (s timings : List ℕ) (from : ℕ) (sized : length timings ≡ 12) (ea
   first : (i : ℕ) → i < 10 → getD timings i 0 ≡ leAt 2 s (from + (1 + 2 * i))
   first i l =
       let same : getD (take 10 timings) i 0 ≡ getD timings i 0 = getD-take 10 timings i 0 l in
-      let place : from + 1 + 2 * i ≡ from + (1 + 2 * i) = omega arith in
-      rw (same, place) at (number-in 2 s (take 10 timings) (from + 1) i (omega (arith, ten)) (rw same (early i l)) (stands-first s _ _ _ row))
+      let offset : from + 1 + 2 * i ≡ from + (1 + 2 * i) = omega arith in
+      rw (same, offset) at (number-in 2 s (take 10 timings) (from + 1) i (omega (arith, ten)) (rw same (early i l)) (stands-first s _ _ _ row))
 
   last : (i : ℕ) → i < 2 → getD timings (10 + i) 0 ≡ leAt width s (from + 21 + width * i)
   unfolding width
@@ -84,8 +84,8 @@ module _ (s timings : List ℕ) (from : ℕ) (sized : length timings ≡ 12) (ea
       (λ k. if-lt _ _ i 10 k (first i k))
       (λ k.
       by-lt i 11
-      (λ m. let e : i ≡ 10 = omega arith in let place : from + 21 + width * 0 ≡ from + 21 = omega arith in if-ge _ _ i 10 k (if-eq _ _ i 10 e (rw e (rw place at (last 0 (omega arith))))))
-      (λ m. let e : i ≡ 11 = omega arith in let place : from + 21 + width * 1 ≡ from + (21 + width) = omega arith in if-ge _ _ i 10 k (if-ne _ _ i 10 (λ (z : i ≡ 10). omega arith) (rw e (rw place at (last 1 (omega arith)))))))
+      (λ m. let e : i ≡ 10 = omega arith in let offset : from + 21 + width * 0 ≡ from + 21 = omega arith in if-ge _ _ i 10 k (if-eq _ _ i 10 e (rw e (rw offset at (last 0 (omega arith))))))
+      (λ m. let e : i ≡ 11 = omega arith in let offset : from + 21 + width * 1 ≡ from + (21 + width) = omega arith in if-ge _ _ i 10 k (if-ne _ _ i 10 (λ (z : i ≡ 10). omega arith) (rw e (rw offset at (last 1 (omega arith)))))))
 
   timings-read : timings ≡ counted (timingAt s from (lastWidth (drop 10 timings))) 12
   unfolding width
@@ -115,10 +115,10 @@ module _ (t : TimeslotTemplate) where
   template-small = by-form (λ e k. omega arith) (λ e n k. omega arith) (λ e n k. omega arith)
 
 -- ---- the element
-module _ (s : List ℕ) (at to : ℕ) (t : TimeslotTemplate) (sized : length (t .timings) ≡ 12) (w : TemplateWithin t) (room : at + 2 + templateSize t ≤ to) (h : Stands s at (templateBytes t)) where
+module _ (s : List ℕ) (at to : ℕ) (t : TimeslotTemplate) (sized : length (t .timings) ≡ 12) (w : TemplateWithin t) (buffer : at + 2 + templateSize t ≤ to) (h : Stands s at (templateBytes t)) where
   content : (inner.Part 28 (at + 2) (at + 2 + templateSize t) ≡ innerAt s at to) × Stands s (at + 2) (leBytes 1 (t .id) ++ ifOn (t .timed) (timingsBytes (t .timings)) [])
   unfolding templateBytes
-  content = head-short s _ at to (templateSize t) room 28 (omega arith) (omega (arith, template-small t)) h
+  content = head-short s _ at to (templateSize t) buffer 28 (omega arith) (omega (arith, template-small t)) h
 
   id-reads : (t .id ≡ leAt 1 s (at + 2)) × Stands s (at + 2 + 1) (ifOn (t .timed) (timingsBytes (t .timings)) [])
   id-reads = le-here 1 (t .id) s _ (at + 2) (w .id) (content .1)

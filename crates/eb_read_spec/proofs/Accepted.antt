@@ -1,5 +1,5 @@
 -- What a frame with the number 0 gives: the walk noted the required elements, which lie inside the frame, and the record is what
--- stands at their places, so that a slot can be decided on by it. Assumes nothing.
+-- stands at their offsets, so that a slot can be decided on by it. Assumes nothing.
 use Prim.Native.Nat.{ℕ, _+_, _-_, _*_, _<_, _≤_}
 use mathlib.Core.Path.{_≡_, refl, sym, _∙_, ap}
 use mathlib.Core.List.{List}
@@ -20,7 +20,7 @@ use Rattle.eb_read_spec.proofs.Each.{each-eq}
 use Rattle.eb_read_spec.proofs.Noted.{twice, SlotframePassed, TimeslotPassed, JoiningPassed, examined-noted}
 use Rattle.eb_read_spec.proofs.Bounds.{le-below, padded-at, fit-below}
 
--- the required elements have places
+-- the required elements have offsets
 pub record Required (w : Walk) : Type 0 where
   pub synchronization : w .synchronization ≡ 0 → ⊥
   pub timeslot : w .timeslot ≡ 0 → ⊥
@@ -57,8 +57,8 @@ module _ (s : List ℕ) (at : ℕ) (h : SlotframePassed s at) where
   pub link-below : (i : ℕ) → i < slotframeAt s at .count → getD (slotframeAt s at .links) i blankLink .timeslot < slotframeAt s at .size
   unfolding slotframeAt linkAt
   link-below i lt =
-      let place : at + (5 + 5 * i) ≡ at + 5 + 5 * i = omega arith in
-      rw (padded-at (linkAt s at) blankLink blankLink 16 (getD s (at + 4) 0) i lt (h .few), place) (fit-below s _ _ (at + 5) i (h .below) lt)
+      let offset : at + (5 + 5 * i) ≡ at + 5 + 5 * i = omega arith in
+      rw (padded-at (linkAt s at) blankLink blankLink 16 (getD s (at + 4) 0) i lt (h .few), offset) (fit-below s _ _ (at + 5) i (h .below) lt)
 
 pub accepted-may-be-decided-on : AcceptedMayBeDecidedOn
 unfolding decoded slotframeAt synchronizationAt

@@ -8,7 +8,7 @@ use lib.ListN.{length}
 use Rattle.octets_spec.specs.Choice.{ifLt, ifEq}
 use Rattle.octets_spec.proofs.ChoiceLaws.{by-lt}
 use Rattle.eb_record_spec.specs.declared.Beacon.{Beacon}
-use Rattle.mac_header_spec.specs.Control.{openingFault}
+use Rattle.mac_header_spec.specs.Control.{macHeaderFault}
 use Rattle.mac_header_spec.proofs.ControlLaws.{too-long}
 use Rattle.eb_read_spec.specs.Read.{examined, readFrame}
 use Rattle.eb_read_spec.specs.Claims.{NumbersTo8, OneIsTheLength}
@@ -30,7 +30,7 @@ number-of s = kept (examined s .number) _ _
 
 long-is-1 : (s : List ℕ) → 125 < length s → examined s .number ≡ 1
 unfolding examined ifEq
-long-is-1 s h = let e : openingFault s ≡ 1 = sym (too-long s h) in rw e
+long-is-1 s h = let e : macHeaderFault s ≡ 1 = sym (too-long s h) in rw e
 
 pub numbers-to-8 : NumbersTo8
 numbers-to-8 s =

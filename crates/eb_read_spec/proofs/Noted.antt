@@ -1,5 +1,5 @@
--- What holds of every element that the walk noted: it passed the tests of its kind, so that the bytes at its place are within the
--- limits of reading, and it lies before the end of the list. A place that is 0 is none. Assumes nothing.
+-- What holds of every element that the walk noted: it passed the tests of its kind, so that the bytes at its offset are within the
+-- limits of reading, and it lies before the end of the list. An offset that is 0 is none. Assumes nothing.
 use Prim.Native.Nat.{ℕ, zero, suc, _+_, _-_, _*_, _/_, _%_, _≤_}
 use mathlib.Core.Path.{_≡_, refl}
 use mathlib.Core.Bool.{true}
@@ -22,7 +22,7 @@ use Rattle.ie_walk_spec.specs.Walk.{seenOf, skipOne, taken, stopped, partTaken,
 use Rattle.ie_walk_spec.specs.declared.Walk.{Walk}
 use Rattle.ie_walk_spec.specs.declared.Headed.{Headed}
 use Rattle.eb_read_spec.specs.declared.Examination.{Examination}
-use Rattle.eb_read_spec.specs.Read.{headedWalk, blankWalk, elementsWalk, elementsPlace, examined}
+use Rattle.eb_read_spec.specs.Read.{headedWalk, blankWalk, elementsWalk, elementsOffset, examined}
 use Rattle.eb_read_spec.proofs.Each.{each-eq, each-eq-2}
 use Rattle.eb_read_spec.proofs.Within.{outer-within, inner-within}
 
@@ -251,4 +251,4 @@ elements-noted s at end =
 pub examined-noted : (s : List ℕ) → Noted s (length s) (examined s .walk)
 unfolding examined blankWalk
 examined-noted s =
-    either-eq (λ (x : Examination). Noted s (length s) (x .walk)) _ _ (elements-noted s (elementsPlace s) (length s)) (headed-noted s (length s) _) _ _
+    either-eq (λ (x : Examination). Noted s (length s) (x .walk)) _ _ (elements-noted s (elementsOffset s) (length s)) (headed-noted s (length s) _) _ _

@@ -8,7 +8,7 @@ use lib.ListN.{length, getD}
 use Rattle.octets_spec.specs.Choice.{ifOn, ifLt, ifEq}
 use Rattle.octets_spec.specs.Number.{leAt}
 use Rattle.octets_spec.proofs.ChoiceLaws.{if-ge, either-on, either-lt, either-eq}
-use Rattle.mac_header_spec.specs.Control.{controlOf, placesOf, formFault, openingFault}
+use Rattle.mac_header_spec.specs.Control.{controlOf, offsetsOf, formFault, macHeaderFault}
 use Rattle.mac_header_spec.specs.declared.Control.{Control}
 use Rattle.ie_verdict_spec.specs.Verdict.{onceOnly, syncFault, timeslotFault, hoppingFault, slotframeShape, slotframeLimits, slotframeFault, joiningFault, slotframeFaultAt, partFault}
 use Rattle.ie_verdict_spec.specs.declared.Seen.{Seen}
@@ -24,7 +24,7 @@ use Rattle.ie_walk_spec.specs.Walk.{seenOf, skipOne, taken, stopped, partTaken,
 use Rattle.ie_walk_spec.specs.declared.Walk.{Walk}
 use Rattle.ie_walk_spec.specs.declared.Headed.{Headed}
 use Rattle.eb_read_spec.specs.declared.Examination.{Examination}
-use Rattle.eb_read_spec.specs.Read.{headedWalk, elementsWalk, missing, walkNumber, elementsPlace, examined}
+use Rattle.eb_read_spec.specs.Read.{headedWalk, elementsWalk, missing, walkNumber, elementsOffset, examined}
 
 -- a number from 0 to 8 but 1, as a test that computes at a literal
 abbrev Small : ℕ → Type 0
@@ -50,9 +50,9 @@ unfolding formFault
 form-small c =
     either-eq Small _ _ (either-eq Small _ _ (either-eq Small _ _ (either-eq Small _ _ (either-lt Small _ _ tt (either-eq Small _ _ (either-eq Small _ _ tt tt _ _) tt _ _) _ _) tt _ _) tt _ _) tt _ _) tt _ _
 
-pub opening-small : (s : List ℕ) → length s ≤ 125 → Small (openingFault s)
-unfolding openingFault
-opening-small s short = subst Small (if-ge _ _ 125 (length s) short refl) (either-lt Small _ _ tt (either-eq Small _ _ (either-lt Small _ _ tt (either-eq Small _ _ tt tt _ _) _ _) (form-small _) _ _) _ _)
+pub mac-header-small : (s : List ℕ) → length s ≤ 125 → Small (macHeaderFault s)
+unfolding macHeaderFault
+mac-header-small s short = subst Small (if-ge _ _ 125 (length s) short refl) (either-lt Small _ _ tt (either-eq Small _ _ (either-lt Small _ _ tt (either-eq Small _ _ tt tt _ _) _ _) (form-small _) _ _) _ _)
 
 -- ---- the elements
 once-small : (seen : ℕ) → Small (onceOnly seen)
@@ -193,4 +193,4 @@ number-small w h = either-eq Small _ _ (missing-small w) h _ _
 
 pub examined-small : (s : List ℕ) → length s ≤ 125 → Small (examined s .number)
 unfolding examined
-examined-small s short = either-eq (λ (x : Examination). Small (x .number)) _ _ (number-small _ (elements-small s (elementsPlace s) (length s))) (opening-small s short) _ _
+examined-small s short = either-eq (λ (x : Examination). Small (x .number)) _ _ (number-small _ (elements-small s (elementsOffset s) (length s))) (mac-header-small s short) _ _

@@ -8,14 +8,14 @@ use Rattle.octets_spec.specs.Number.{leAt}
 use Rattle.octets_spec.proofs.ChoiceLaws.{if-eq, if-ne, choices}
 use Rattle.eb_record_spec.specs.Record.{blankBeacon}
 use Rattle.eb_record_spec.specs.declared.Beacon.{Beacon}
-use Rattle.mac_header_spec.specs.Control.{controlOf, placesOf, openingFault}
+use Rattle.mac_header_spec.specs.Control.{controlOf, offsetsOf, macHeaderFault}
 use Rattle.mac_header_spec.specs.declared.Control.{Control}
-use Rattle.mac_header_spec.specs.declared.FieldPlaces.{FieldPlaces}
+use Rattle.mac_header_spec.specs.declared.FieldOffsets.{FieldOffsets}
 use Rattle.ie_walk_spec.specs.Walk.{headerList, payloadList}
 use Rattle.ie_walk_spec.specs.declared.Walk.{Walk}
 use Rattle.ie_walk_spec.specs.declared.Headed.{Headed}
 use Rattle.eb_decode_spec.specs.Decode.{decoded}
-use Rattle.eb_read_spec.specs.Read.{headedWalk, blankWalk, elementsWalk, missing, walkNumber, elementsPlace, examined, readFrame}
+use Rattle.eb_read_spec.specs.Read.{headedWalk, blankWalk, elementsWalk, missing, walkNumber, elementsOffset, examined, readFrame}
 use Rattle.eb_read_spec.specs.declared.Examination.{Examination}
 use Rattle.eb_read_spec.proofs.Numbers.{at-most-8, elements-small}
 
@@ -42,9 +42,9 @@ module _ (s : List ℕ) (at end : ℕ) (head : Headed) (start : Walk) (h : head 
     unfolding elementsWalk
     header-and-payload r some e = rw (← h) (if-eq _ _ _ _ good (if-ne _ _ _ _ some (rw b at e)))
 
-pub places-at : (s : List ℕ) (word : ℕ) (control : Control) (places : FieldPlaces) → word ≡ leAt 2 s 0 → control ≡ controlOf word → places ≡ placesOf control → places .elements ≡ elementsPlace s
-unfolding elementsPlace
-places-at s word control places e f g = rw (g, f, e)
+pub offsets-at : (s : List ℕ) (word : ℕ) (control : Control) (offsets : FieldOffsets) → word ≡ leAt 2 s 0 → control ≡ controlOf word → offsets ≡ offsetsOf control → offsets .elements ≡ elementsOffset s
+unfolding elementsOffset
+offsets-at s word control offsets e f g = rw (g, f, e)
 
 pub walk-small : (s : List ℕ) (at end : ℕ) (w : Walk) → w ≡ elementsWalk s at end → w .fault ≤ 8
 walk-small s at end w e = rw e (at-most-8 _ (elements-small s at end))
@@ -59,12 +59,12 @@ module _ (w : Walk) where
   unfolding walkNumber
   faultless n h e = if-eq _ _ _ _ h e
 
-module _ (s : List ℕ) (fault : ℕ) (f : fault ≡ openingFault s) where
-  pub examined-opening : (w : Walk) → (fault ≡ 0 → ⊥) → w ≡ blankWalk → record { number = fault; walk = w } ≡ examined s
+module _ (s : List ℕ) (fault : ℕ) (f : fault ≡ macHeaderFault s) where
+  pub examined-mac-header : (w : Walk) → (fault ≡ 0 → ⊥) → w ≡ blankWalk → record { number = fault; walk = w } ≡ examined s
   unfolding examined
-  examined-opening w bad e = rw (← f) (if-ne _ _ fault 0 bad (rw e))
+  examined-mac-header w bad e = rw (← f) (if-ne _ _ fault 0 bad (rw e))
 
-  pub examined-walk : (w : Walk) (at n : ℕ) → fault ≡ 0 → at ≡ elementsPlace s → w ≡ elementsWalk s at (length s) → n ≡ walkNumber w → record { number = n; walk = w } ≡ examined s
+  pub examined-walk : (w : Walk) (at n : ℕ) → fault ≡ 0 → at ≡ elementsOffset s → w ≡ elementsWalk s at (length s) → n ≡ walkNumber w → record { number = n; walk = w } ≡ examined s
   unfolding examined
   examined-walk w at n good p e g = rw (← f) (if-eq _ _ fault 0 good (rw (g, e, p)))
 
@@ -77,4 +77,4 @@ module _ (s : List ℕ) (x : Examination) (e : x ≡ examined s) where
   unfolding readFrame
   read-done b good f = rw (← e) (if-eq _ _ _ _ good (rw f))
 
-pub ruleset reading = (choices, heads, blanks, header-faulty, header-only, header-and-payload, places-at, walk-small, faulty, faultless, examined-opening, examined-walk, read-refused, read-done)
+pub ruleset reading = (choices, heads, blanks, header-faulty, header-only, header-and-payload, offsets-at, walk-small, faulty, faultless, examined-mac-header, examined-walk, read-refused, read-done)

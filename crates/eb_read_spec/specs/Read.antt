@@ -6,7 +6,7 @@ use Rattle.octets_spec.specs.Choice.{ifEq}
 use Rattle.octets_spec.specs.Number.{leAt}
 use Rattle.refusal.specs.Refusal.{done, missingOrTwice}
 use Rattle.eb_record_spec.specs.Record.{blankBeacon}
-use Rattle.mac_header_spec.specs.Control.{controlOf, placesOf, openingFault}
+use Rattle.mac_header_spec.specs.Control.{controlOf, offsetsOf, macHeaderFault}
 use Rattle.ie_walk_spec.specs.Walk.{headerList, payloadList}
 use Rattle.ie_walk_spec.specs.declared.Walk.{Walk}
 use Rattle.ie_walk_spec.specs.declared.Headed.{Headed}
@@ -55,16 +55,16 @@ unfoldable pub walkNumber : Walk → ℕ
 walkNumber w = ifEq (w .fault) done (missing w) (w .fault)
 
 -- the elements start behind the fixed fields
-unfoldable pub elementsPlace : List ℕ → ℕ
-elementsPlace s = placesOf (controlOf (leAt 2 s 0)) .elements
+unfoldable pub elementsOffset : List ℕ → ℕ
+elementsOffset s = offsetsOf (controlOf (leAt 2 s 0)) .elements
 
 -- the number of a frame, and what the walk over its elements noted
 unfoldable pub examined : List ℕ → Examination
 examined s =
-    let w = elementsWalk s (elementsPlace s) (length s) in
-    ifEq (openingFault s) done
+    let w = elementsWalk s (elementsOffset s) (length s) in
+    ifEq (macHeaderFault s) done
     (record { number = walkNumber w; walk = w })
-    (record { number = openingFault s; walk = blankWalk })
+    (record { number = macHeaderFault s; walk = blankWalk })
 
 -- reading: the number, and the record or, on a refusal, the blank one
 unfoldable pub readFrame : List ℕ → ReadAnswer

@@ -26,7 +26,7 @@ shortestRecord = record {
   synchronization = record { asn = 256; metric = 2 };
   timeslot = record { id = 0; timed = false; timings = replicate 12 0 };
   hopping = 0;
-  slotframe = record { handle = 0; size = 11; count = 1; links = record { timeslot = 0; offset = 0; options = 15 } ∷ replicate 15 blankLink };
+  slotframe = record { handle = 0; size = 11; count = 1; links = record { timeslot = 0; «channel_offset» = 0; options = 15 } ∷ replicate 15 blankLink };
   joining = blankJoining;
 }
 

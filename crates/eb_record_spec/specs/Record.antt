@@ -10,7 +10,7 @@ use Rattle.eb_record_spec.specs.declared.Beacon.{Beacon}
 
 -- a link whose numbers are all zero
 abbrev pub blankLink : Link
-blankLink = record { timeslot = 0; offset = 0; options = 0 }
+blankLink = record { timeslot = 0; «channel_offset» = 0; options = 0 }
 
 -- no joining information
 abbrev pub blankJoining : JoiningInformation

@@ -32,7 +32,7 @@ pub struct TimeslotTemplate {
 #[repr(C)]
 pub struct Link {
     pub timeslot: u16,
-    pub offset: u16,
+    pub channel_offset: u16,
     pub options: u8,
 }
 
@@ -70,13 +70,13 @@ pub struct Beacon {
     pub joining: JoiningInformation,
 }
 
-// A link whose numbers are all zero: what stands in the unused places of a slotframe.
+// A link whose numbers are all zero: what stands in the unused offsets of a slotframe.
 pub fn blank_link() -> Link
     ensures { λ r. ⌜ r ≡ blankLink ⌝ }
 {
     Link {
         timeslot: 0,
-        offset: 0,
+        channel_offset: 0,
         options: 0,
     }
 }

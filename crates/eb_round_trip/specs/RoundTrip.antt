@@ -15,6 +15,6 @@ readAs b = record { number = done; beacon = b }
 abbrev pub refusedAs : ℕ → ReadAnswer
 refusedAs number = record { number = number; beacon = blankBeacon }
 
--- what comes back from a room of this length: the record itself if it is written, and else the number of the refusal with the blank record
+-- what comes back from a buffer of this length: the record itself if it is written, and else the number of the refusal with the blank record
 unfoldable pub backFrom : Beacon → ℕ → ReadAnswer
-backFrom b room = ifEq (writtenNumber b room) done (readAs b) (record { number = writtenNumber b room; beacon = blankBeacon })
+backFrom b buffer = ifEq (writtenNumber b buffer) done (readAs b) (record { number = writtenNumber b buffer; beacon = blankBeacon })

@@ -2,7 +2,7 @@
 ghost use mathlib.Core.Path.{_≡_};
 ghost use lib.ListN.{length};
 ghost use Rattle.eb_read_back_spec.specs.ReadBack.{Sized};
-ghost use Rattle.eb_write_spec.specs.Write.{roomAfter};
+ghost use Rattle.eb_write_spec.specs.Write.{bufferAfter};
 ghost use Rattle.eb_round_trip.specs.RoundTrip.{refusedAs, backFrom};
 use eb_read::ReadAnswer;
 use eb_record_spec::Beacon;
@@ -23,16 +23,16 @@ fn refused(number: u8) -> ReadAnswer
     }
 }
 
-// Writes a record's frame at the start of a lent room, and reads it there.
-pub fn write_and_read(room: &mut [u8], b: Beacon) -> ReadAnswer
-    ensures answer { λ r. ⌜ r ≡ backFrom b (length (now (room .entry))) ⌝ }
-    ensures room { λ _. ⌜ now (room .exit) ≡ roomAfter b (now (room .entry)) ⌝ }
+// Writes a record's frame at the start of a lent buffer, and reads it there.
+pub fn write_and_read(buffer: &mut [u8], b: Beacon) -> ReadAnswer
+    ensures answer { λ r. ⌜ r ≡ backFrom b (length (now (buffer .entry))) ⌝ }
+    ensures buffer { λ _. ⌜ now (buffer .exit) ≡ bufferAfter b (now (buffer .entry)) ⌝ }
 {
-    let written = eb_write::write(room, b);
+    let written = eb_write::write(buffer, b);
     if written.number != DONE {
         return refused(written.number);
     }
     sized(b);
     let length = written.length;
-    eb_read::read(&room[..length])
+    eb_read::read(&buffer[..length])
 }

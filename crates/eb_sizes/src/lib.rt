@@ -48,7 +48,7 @@ pub fn joining_size(joining: JoiningInformation) -> usize
     5 + joining.length as usize
 }
 
-// A number of used places, and 16 for any over 16.
+// A number of used offsets, and 16 for any over 16.
 pub fn at_most_16(n: u8) -> usize
     ensures { λ r. ⌜ (r ≡ min n 16) × (r ≤ 16) ⌝ }
 {

@@ -14,7 +14,7 @@ use Rattle.octets_spec.proofs.ChoiceLaws.{if-on, if-off, if-lt, if-ge}
 use Rattle.eb_record_spec.specs.declared.Beacon.{Beacon}
 use Rattle.eb_frame_spec.specs.Frame.{frameOf}
 use Rattle.eb_frame_spec.specs.Limits.{fits}
-use Rattle.eb_write_spec.specs.Write.{writtenNumber, writtenIn, roomAfter}
+use Rattle.eb_write_spec.specs.Write.{writtenNumber, writtenIn, bufferAfter}
 
 -- ---- a refusal, and the frame written
 module _ (b : Beacon) (s : List ℕ) (k : ℕ) (is : k ≡ writtenNumber b (length s)) where
@@ -23,18 +23,18 @@ module _ (b : Beacon) (s : List ℕ) (k : ℕ) (is : k ≡ writtenNumber b (leng
     unfolding writtenIn ifEq
     refused-answer = rw (sym is, some)
 
-    refused-room : s ≡ roomAfter b s
-    unfolding roomAfter ifEq
-    refused-room = rw (sym is, some)
+    refused-buffer : s ≡ bufferAfter b s
+    unfolding bufferAfter ifEq
+    refused-buffer = rw (sym is, some)
 
 -- ---- the number
 module _ (b : Beacon) (f : Bool) (limits : f ≡ fits b) where
-  pub number-limits : (room : ℕ) → not f ≡ true → 8 ≡ writtenNumber b room
+  pub number-limits : (buffer : ℕ) → not f ≡ true → 8 ≡ writtenNumber b buffer
   unfolding writtenNumber
-  number-limits room off = if-off _ _ (fits b) (sym limits ∙ not-true f off) refl
+  number-limits buffer off = if-off _ _ (fits b) (sym limits ∙ not-true f off) refl
 
-  pub limits-room : (s : List ℕ) → not f ≡ true → s ≡ roomAfter b s
-  limits-room s off = refused-room b s 8 (number-limits (length s) off) refl
+  pub limits-buffer : (s : List ℕ) → not f ≡ true → s ≡ bufferAfter b s
+  limits-buffer s off = refused-buffer b s 8 (number-limits (length s) off) refl
 
   module _ (on : not f ≡ false) where
     within : fits b ≡ true
@@ -44,33 +44,33 @@ module _ (b : Beacon) (f : Bool) (limits : f ≡ fits b) where
       whole : length (frameOf b) ≡ n
       whole = sym (long within)
 
-      pub number-long : (room : ℕ) → 125 < n → 1 ≡ writtenNumber b room
+      pub number-long : (buffer : ℕ) → 125 < n → 1 ≡ writtenNumber b buffer
       unfolding writtenNumber
-      number-long room h = if-on _ _ (fits b) within (rw whole (if-lt _ _ 125 n h refl))
+      number-long buffer h = if-on _ _ (fits b) within (rw whole (if-lt _ _ 125 n h refl))
 
-      pub long-room : (s : List ℕ) → 125 < n → s ≡ roomAfter b s
-      long-room s h = refused-room b s 1 (number-long (length s) h) refl
+      pub long-buffer : (s : List ℕ) → 125 < n → s ≡ bufferAfter b s
+      long-buffer s h = refused-buffer b s 1 (number-long (length s) h) refl
 
       module _ (h : n ≤ 125) where
-        pub number-short : (room : ℕ) → room < n → 9 ≡ writtenNumber b room
+        pub number-short : (buffer : ℕ) → buffer < n → 9 ≡ writtenNumber b buffer
         unfolding writtenNumber
-        number-short room k = if-on _ _ (fits b) within (rw whole (if-ge _ _ 125 n h (if-lt _ _ room n k refl)))
+        number-short buffer k = if-on _ _ (fits b) within (rw whole (if-ge _ _ 125 n h (if-lt _ _ buffer n k refl)))
 
-        pub short-room : (s : List ℕ) → length s < n → s ≡ roomAfter b s
-        short-room s k = refused-room b s 9 (number-short (length s) k) refl
+        pub short-buffer : (s : List ℕ) → length s < n → s ≡ bufferAfter b s
+        short-buffer s k = refused-buffer b s 9 (number-short (length s) k) refl
 
-        number-done : (room : ℕ) → n ≤ room → 0 ≡ writtenNumber b room
+        number-done : (buffer : ℕ) → n ≤ buffer → 0 ≡ writtenNumber b buffer
         unfolding writtenNumber
-        number-done room k = if-on _ _ (fits b) within (rw whole (if-ge _ _ 125 n h (if-ge _ _ room n k refl)))
+        number-done buffer k = if-on _ _ (fits b) within (rw whole (if-ge _ _ 125 n h (if-ge _ _ buffer n k refl)))
 
-        pub done-answer : (room : ℕ) → n ≤ room → record { number = 0; length = n } ≡ writtenIn b room
+        pub done-answer : (buffer : ℕ) → n ≤ buffer → record { number = 0; length = n } ≡ writtenIn b buffer
         unfolding writtenIn ifEq
-        done-answer room k = rw (sym (number-done room k), whole)
+        done-answer buffer k = rw (sym (number-done buffer k), whole)
 
-        pub done-room : (s t : List ℕ) → n ≤ length s → t ≡ stored s 0 (frameOf b) → t ≡ roomAfter b s
-        unfolding roomAfter stored ifEq
-        done-room s t k put =
-            let place : 0 + length (frameOf b) ≡ length (frameOf b) = omega arith in
-            rw (sym (number-done (length s) k)) (put ∙ (sets-eq (frameOf b) s 0 (omega (arith, whole)) ∙ rw place))
+        pub done-buffer : (s t : List ℕ) → n ≤ length s → t ≡ stored s 0 (frameOf b) → t ≡ bufferAfter b s
+        unfolding bufferAfter stored ifEq
+        done-buffer s t k put =
+            let offset : 0 + length (frameOf b) ≡ length (frameOf b) = omega arith in
+            rw (sym (number-done (length s) k)) (put ∙ (sets-eq (frameOf b) s 0 (omega (arith, whole)) ∙ rw offset))
 
-pub ruleset answers = (refused-answer, number-limits, limits-room, number-long, long-room, number-short, short-room, done-answer, done-room)
+pub ruleset answers = (refused-answer, number-limits, limits-buffer, number-long, long-buffer, number-short, short-buffer, done-answer, done-buffer)

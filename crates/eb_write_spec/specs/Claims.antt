@@ -11,14 +11,14 @@ use Rattle.eb_write_spec.specs.Write.{writtenNumber}
 
 -- a number is given exactly when a condition holds
 abbrev pub GivenWhen : ℕ → Beacon → ℕ → Type 0 → Type 0
-GivenWhen number b room condition = (writtenNumber b room ≡ number → condition) × (condition → writtenNumber b room ≡ number)
+GivenWhen number b buffer condition = (writtenNumber b buffer ≡ number → condition) × (condition → writtenNumber b buffer ≡ number)
 
--- when each number is given: the record is outside the limits; else the frame is longer than 125 bytes; else the room is shorter than
+-- when each number is given: the record is outside the limits; else the frame is longer than 125 bytes; else the buffer is shorter than
 -- the frame; else the frame is written
 abbrev pub WriteNumbers : Type 0
 WriteNumbers =
-    (b : Beacon) (room : ℕ) →
-    GivenWhen outOfLimits b room (fits b ≡ false)
-    × GivenWhen frameTooLong b room ((fits b ≡ true) × (125 < length (frameOf b)))
-    × GivenWhen bufferTooShort b room ((fits b ≡ true) × (length (frameOf b) ≤ 125) × (room < length (frameOf b)))
-    × GivenWhen done b room ((fits b ≡ true) × (length (frameOf b) ≤ 125) × (length (frameOf b) ≤ room))
+    (b : Beacon) (buffer : ℕ) →
+    GivenWhen outOfLimits b buffer (fits b ≡ false)
+    × GivenWhen frameTooLong b buffer ((fits b ≡ true) × (125 < length (frameOf b)))
+    × GivenWhen bufferTooShort b buffer ((fits b ≡ true) × (length (frameOf b) ≤ 125) × (buffer < length (frameOf b)))
+    × GivenWhen done b buffer ((fits b ≡ true) × (length (frameOf b) ≤ 125) × (length (frameOf b) ≤ buffer))

@@ -1,4 +1,4 @@
--- Writing: the checks in their order, the answer, and what the lent room holds afterwards (docs/RULES.md, Writing). Assumes nothing.
+-- Writing: the checks in their order, the answer, and what the lent buffer holds afterwards (docs/RULES.md, Writing). Assumes nothing.
 use Prim.Native.Nat.{ℕ}
 use mathlib.Core.List.{List, _++_}
 use lib.ListN.{length, drop}
@@ -9,19 +9,19 @@ use Rattle.eb_frame_spec.specs.Frame.{frameOf}
 use Rattle.eb_frame_spec.specs.Limits.{fits}
 use Rattle.eb_write_spec.specs.declared.Written.{Written}
 
--- the number for a room of this length: the limits first, then the frame's length, then the room's
+-- the number for a buffer of this length: the limits first, then the frame's length, then the buffer's
 unfoldable pub writtenNumber : Beacon → ℕ → ℕ
-writtenNumber b room =
+writtenNumber b buffer =
     ifOn (fits b)
     (ifLt 125 (length (frameOf b)) frameTooLong
-    (ifLt room (length (frameOf b)) bufferTooShort
+    (ifLt buffer (length (frameOf b)) bufferTooShort
     done))
     outOfLimits
 
 -- the answer: the number and the frame's length, which is 0 on a refusal
 unfoldable pub writtenIn : Beacon → ℕ → Written
-writtenIn b room = record { number = writtenNumber b room; length = ifEq (writtenNumber b room) done (length (frameOf b)) 0 }
+writtenIn b buffer = record { number = writtenNumber b buffer; length = ifEq (writtenNumber b buffer) done (length (frameOf b)) 0 }
 
--- the room afterwards: the frame at its start and the rest as it was, or as a whole as it was
-unfoldable pub roomAfter : Beacon → List ℕ → List ℕ
-roomAfter b room = ifEq (writtenNumber b (length room)) done (frameOf b ++ drop (length (frameOf b)) room) room
+-- the buffer afterwards: the frame at its start and the rest as it was, or as a whole as it was
+unfoldable pub bufferAfter : Beacon → List ℕ → List ℕ
+bufferAfter b buffer = ifEq (writtenNumber b (length buffer)) done (frameOf b ++ drop (length (frameOf b)) buffer) buffer

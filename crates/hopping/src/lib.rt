@@ -23,10 +23,10 @@ const SEQUENCE: [u8; 16] = [
 ];
 
 // The channel of a link with this channel offset at this ASN.
-pub fn channel(asn: u64, offset: u16) -> u8
-    ensures channel { λ r. ⌜ r ≡ channelOf asn offset ⌝ }
+pub fn channel(asn: u64, channel_offset: u16) -> u8
+    ensures channel { λ r. ⌜ r ≡ channelOf asn «channel_offset» ⌝ }
     ensures sequence { λ _. ⌜ HoppingPermutes ⌝ }
 {
-    let entry = ((asn % 16) + (offset % 16) as u64) % 16;
+    let entry = ((asn % 16) + (channel_offset % 16) as u64) % 16;
     SEQUENCE[entry as usize]
 }

@@ -1,4 +1,4 @@
-// A step of the header list. A list lies from a place to an end, which is a parameter: nothing here asks how long the slice is.
+// A step of the header list. A list lies from an offset to an end, which is a parameter: nothing here asks how long the slice is.
 ghost use mathlib.Core.Path.{_≡_};
 ghost use Prim.Native.Nat.{_+_, _≤_, _<_};
 ghost use Rattle.ie_step_spec.specs.Header.{headerWord, headerAt, headerWithin};
@@ -35,7 +35,7 @@ fn header_word(at: usize, end: usize, word: u64) -> HeaderStep
     HeaderStep::Element(id, from, from + length)
 }
 
-// What stands at a place of the header list.
+// What stands at an offset of the header list.
 pub fn header_step(s: &[u8], at: usize, end: usize) -> HeaderStep
     ensures { λ r. ⌜ (r ≡ headerAt (now (s .entry)) at end) × headerWithin r at end ⌝ }
 {

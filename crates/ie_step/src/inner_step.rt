@@ -1,4 +1,4 @@
-// A step of an MLME group. A group lies from a place to an end, which is a parameter: nothing here asks how long the slice is.
+// A step of an MLME group. A group lies from an offset to an end, which is a parameter: nothing here asks how long the slice is.
 ghost use mathlib.Core.Path.{_≡_};
 ghost use Prim.Native.Nat.{_+_, _≤_, _<_};
 ghost use Rattle.ie_step_spec.specs.Payload.{innerWord, innerAt, innerWithin};
@@ -24,7 +24,7 @@ fn inner_word(at: usize, end: usize, word: u64) -> InnerStep
     InnerStep::Part(128 + word / 2048 % 16, from, from + long)
 }
 
-// What stands at a place of an MLME group.
+// What stands at an offset of an MLME group.
 pub fn inner_step(s: &[u8], at: usize, end: usize) -> InnerStep
     ensures { λ r. ⌜ (r ≡ innerAt (now (s .entry)) at end) × innerWithin r at end ⌝ }
 {

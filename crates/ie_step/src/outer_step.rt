@@ -1,4 +1,4 @@
-// A step of the payload list. A list lies from a place to an end, which is a parameter: nothing here asks how long the slice is.
+// A step of the payload list. A list lies from an offset to an end, which is a parameter: nothing here asks how long the slice is.
 ghost use mathlib.Core.Path.{_≡_};
 ghost use Prim.Native.Nat.{_+_, _≤_, _<_};
 ghost use Rattle.ie_step_spec.specs.Payload.{groupOf, outerWord, outerAt, outerWithin};
@@ -48,7 +48,7 @@ fn outer_word(s: &[u8], at: usize, end: usize, word: u64) -> OuterStep
     group_word(s, group, from, from + size)
 }
 
-// What stands at a place of the payload list.
+// What stands at an offset of the payload list.
 pub fn outer_step(s: &[u8], at: usize, end: usize) -> OuterStep
     ensures { λ r. ⌜ (r ≡ outerAt (now (s .entry)) at end) × outerWithin r (at + 2) end ⌝ }
 {

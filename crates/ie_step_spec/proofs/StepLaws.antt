@@ -67,10 +67,10 @@ module _ (s : List ℕ) (at end : ℕ) where
 
 -- what lies within an element lies within its list
 pub widen : (r : OuterStep) (from length end : ℕ) → from ≤ end → length ≤ end - from → outerWithin r from (from + length) → outerWithin r from end
-widen outer.End from length end fits room within = tt
-widen (outer.Group b e) from length end fits room within = (within .0, within .1, omega arith)
-widen (outer.Joining b e) from length end fits room within = (within .0, within .1, omega arith)
-widen (outer.Skip e) from length end fits room within = (within .0, omega arith)
-widen (outer.Fault number) from length end fits room within = tt
+widen outer.End from length end fits buffer within = tt
+widen (outer.Group b e) from length end fits buffer within = (within .0, within .1, omega arith)
+widen (outer.Joining b e) from length end fits buffer within = (within .0, within .1, omega arith)
+widen (outer.Skip e) from length end fits buffer within = (within .0, omega arith)
+widen (outer.Fault number) from length end fits buffer within = tt
 
 pub ruleset steps = (header-end, header-cut, header-here, outer-end, outer-cut, outer-here, inner-end, inner-cut, inner-here)

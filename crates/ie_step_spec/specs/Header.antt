@@ -1,4 +1,4 @@
--- The header list: what stands at a place of it (docs/RULES.md, Header elements). Assumes nothing.
+-- The header list: what stands at an offset of it (docs/RULES.md, Header elements). Assumes nothing.
 use Prim.Native.Nat.{ℕ, _+_, _-_, _/_, _%_, _<_, _≤_}
 use mathlib.Core.Path.{_≡_}
 use mathlib.Core.List.{List}

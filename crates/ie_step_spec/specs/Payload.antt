@@ -1,4 +1,4 @@
--- The payload list and the MLME group: what stands at a place of them (docs/RULES.md, Payload elements). Assumes nothing.
+-- The payload list and the MLME group: what stands at an offset of them (docs/RULES.md, Payload elements). Assumes nothing.
 use Prim.Native.Nat.{ℕ, _+_, _-_, _/_, _%_, _<_, _≤_}
 use mathlib.Core.Path.{_≡_}
 use mathlib.Core.List.{List}

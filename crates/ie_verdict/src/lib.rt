@@ -1,5 +1,5 @@
 // Whether a known element is as it should be: for each element a row of tests on plain numbers, in the order of the rules. `seen` is
-// the place of an element of that kind that was taken before, and 0 if there was none: no element starts at 0.
+// the offset of an element of that kind that was taken before, and 0 if there was none: no element starts at 0.
 ghost use mathlib.Core.Path.{_≡_};
 ghost use Prim.Native.Nat.{_<_};
 ghost use Rattle.ie_verdict_spec.specs.Verdict.{onceOnly, syncFault, timeslotFault, hoppingFault, joiningFault, partFault};
@@ -79,7 +79,7 @@ fn joining_fault(length: usize, seen: usize, proxied: u64) -> u8
     twice(seen)
 }
 
-// The fault of an element of some kind that lies from a place to another, and 0 if it has none; an unknown kind has none. Kinds: a
+// The fault of an element of some kind that lies from an offset to another, and 0 if it has none; an unknown kind has none. Kinds: a
 // short sub-element's ID, 128 and a long one's, 256 and the subtype of an IETF group.
 pub fn part_fault(s: &[u8], kind: u64, from: usize, to: usize, seen: Seen) -> u8
     ensures { λ r. ⌜ r ≡ partFault (now (s .entry)) kind from to seen ⌝ }

@@ -46,13 +46,13 @@ fn timeslots_fit(s: &[u8], at: usize, n: usize, size: u64) -> bool
     requires { ⌜ (at + 5 * n < 2 ^ 64) × (n < 256) ⌝ }
     ensures { λ r. ⌜ r ≡ timeslotsFit (now (s .entry)) at n size ⌝ }
 {
-    let mut place = at;
+    let mut offset = at;
     let mut left = n;
     while 0 < left {
-        if size <= octets::get::le(s, place, 2) {
+        if size <= octets::get::le(s, offset, 2) {
             return false;
         }
-        place += 5;
+        offset += 5;
         left -= 1;
     }
     true
@@ -78,7 +78,7 @@ fn slotframe_at(s: &[u8], from: usize, length: usize, seen: usize) -> u8
     slotframe_limits(size, links, timeslots_fit(s, from + 5, links, size))
 }
 
-// The fault of a slotframe and link element that lies from a place to another, and 0 if it has none. `seen` is the place of one that was
+// The fault of a slotframe and link element that lies from an offset to another, and 0 if it has none. `seen` is the offset of one that was
 // taken before, and 0 if there was none.
 pub fn slotframe_fault(s: &[u8], from: usize, to: usize, seen: usize) -> u8
     ensures { λ r. ⌜ r ≡ slotframeFaultAt (now (s .entry)) from (to - from) seen ⌝ }

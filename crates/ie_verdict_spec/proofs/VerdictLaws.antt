@@ -16,17 +16,17 @@ use Rattle.ie_verdict_spec.specs.declared.Seen.{Seen}
 
 -- ---- the loop over the timeslots: what is left gives what the whole gives
 module _ (s : List ℕ) (size : ℕ) where
-  one-more : (place left : ℕ) → 0 < left → timeslotsFit s place left size ≡ (ltb (leAt 2 s place) size && timeslotsFit s (place + 5) (left - 1) size)
+  one-more : (offset left : ℕ) → 0 < left → timeslotsFit s offset left size ≡ (ltb (leAt 2 s offset) size && timeslotsFit s (offset + 5) (left - 1) size)
   unfolding timeslotsFit
-  one-more place zero some = absurd (omega arith)
-  one-more place (suc left) some = let e : suc left - 1 ≡ left = omega arith in rw e
+  one-more offset zero some = absurd (omega arith)
+  one-more offset (suc left) some = let e : suc left - 1 ≡ left = omega arith in rw e
 
-  module _ (place left : ℕ) (whole : Bool) (so-far : timeslotsFit s place left size ≡ whole) where
-    pub fit-turn : (t : ℕ) → 0 < left → t ≡ leAt 2 s place → t < size → timeslotsFit s (place + 5) (left - 1) size ≡ whole
-    fit-turn t some read below = let b : leAt 2 s place < size = omega arith in rw (one-more place left some, lt-ltb _ _ b) at so-far
+  module _ (offset left : ℕ) (whole : Bool) (so-far : timeslotsFit s offset left size ≡ whole) where
+    pub fit-turn : (t : ℕ) → 0 < left → t ≡ leAt 2 s offset → t < size → timeslotsFit s (offset + 5) (left - 1) size ≡ whole
+    fit-turn t some read below = let b : leAt 2 s offset < size = omega arith in rw (one-more offset left some, lt-ltb _ _ b) at so-far
 
-    pub fit-not : (t : ℕ) → 0 < left → t ≡ leAt 2 s place → size ≤ t → false ≡ whole
-    fit-not t some read over = let b : size ≤ leAt 2 s place = omega arith in rw (one-more place left some, le-ltb _ _ b) at so-far
+    pub fit-not : (t : ℕ) → 0 < left → t ≡ leAt 2 s offset → size ≤ t → false ≡ whole
+    fit-not t some read over = let b : size ≤ leAt 2 s offset = omega arith in rw (one-more offset left some, le-ltb _ _ b) at so-far
 
     pub fit-end : left ≤ 0 → true ≡ whole
     unfolding timeslotsFit
@@ -58,8 +58,8 @@ module _ (s : List ℕ) (from length seen : ℕ) where
       unfolding slotframeFaultAt slotframeFault
       frame-limits size r below once z b k = rw (← c, ← l, ← e, ← z, ← b) (if-eq _ _ fault 0 good (if-eq _ _ seen 0 once k))
 
-pub room-for-links : (from length count links fault : ℕ) → from + length < 2 ^ 64 → fault ≡ slotframeShape length count links → fault ≡ 0 → from + 5 + 5 * links < 2 ^ 64
-room-for-links from length count links fault room e good = omega (arith, shape-done length count links (sym e ∙ good))
+pub buffer-for-links : (from length count links fault : ℕ) → from + length < 2 ^ 64 → fault ≡ slotframeShape length count links → fault ≡ 0 → from + 5 + 5 * links < 2 ^ 64
+buffer-for-links from length count links fault buffer e good = omega (arith, shape-done length count links (sym e ∙ good))
 
 -- ---- an element by its kind
 module _ (s : List ℕ) (kind from to : ℕ) (seen : Seen) (length r : ℕ) (l : length ≡ to - from) where
@@ -92,4 +92,4 @@ module _ (s : List ℕ) (kind from to : ℕ) (seen : Seen) where
   unfolding partFault
   part-unknown a b c d e = if-ne _ _ kind 26 a (if-ne _ _ kind 28 b (if-ne _ _ kind 137 c (if-ne _ _ kind 27 d (if-ne _ _ kind 258 e refl))))
 
-pub ruleset verdicts = (choices, fit-turn, fit-not, fit-end, frame-short, frame-shape, frame-twice, frame-limits, room-for-links, part-sync, part-timeslot, part-hopping, part-slotframe, part-joining, part-unknown)
+pub ruleset verdicts = (choices, fit-turn, fit-not, fit-end, frame-short, frame-shape, frame-twice, frame-limits, buffer-for-links, part-sync, part-timeslot, part-hopping, part-slotframe, part-joining, part-unknown)

@@ -50,7 +50,7 @@ slotframeFault bytes seen count size links below =
 unfoldable pub joiningFault : ℕ → ℕ → ℕ → ℕ
 joiningFault size seen proxied = ifLt size (4 + 8 * proxied) shape (ifLt (4 + 8 * proxied + 16) size shape (onceOnly seen))
 
--- the timeslots of n links from a place on are below a size
+-- the timeslots of n links from an offset on are below a size
 unfoldable pub timeslotsFit : List ℕ → ℕ → ℕ → ℕ → Bool
 timeslotsFit s at zero size = true
 timeslotsFit s at (suc n) size = ltb (leAt 2 s at) size && timeslotsFit s (at + 5) n size
@@ -82,7 +82,7 @@ hoppingKind = 128 + 9
 abbrev pub joiningKind : ℕ
 joiningKind = 256 + 2
 
--- the fault of an element of a kind that lies from a place to another; P is bit 6 of joining information's first byte
+-- the fault of an element of a kind that lies from an offset to another; P is bit 6 of joining information's first byte
 unfoldable pub partFault : List ℕ → ℕ → ℕ → ℕ → Seen → ℕ
 partFault s kind from to seen =
     let size : ℕ = to - from in

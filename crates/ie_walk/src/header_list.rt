@@ -4,7 +4,7 @@ ghost use Rattle.ie_walk_spec.specs.Walk.{headerList};
 use ie_step_spec::HeaderStep;
 use ie_walk_spec::Headed;
 
-// The header list from a place to an end.
+// The header list from an offset to an end.
 pub fn header_list(s: &[u8], at: usize, end: usize) -> Headed
     ensures { λ r. ⌜ r ≡ headerList (now (s .entry)) at end ⌝ }
 {

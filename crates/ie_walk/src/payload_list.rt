@@ -87,7 +87,7 @@ fn part(s: &[u8], w: Walk, kind: u64, from: usize, to: usize, at: usize) -> Walk
     stop(w, fault, at)
 }
 
-// The payload list from a place on.
+// The payload list from an offset on.
 fn outer(s: &[u8], at: usize, end: usize, w: Walk) -> Walk
     requires { ⌜ at ≤ end ⌝ }
     ensures { λ r. ⌜ OuterIs (now (s .entry)) at end w r ⌝ }
@@ -120,7 +120,7 @@ fn outer(s: &[u8], at: usize, end: usize, w: Walk) -> Walk
     }
 }
 
-// An MLME group from a place of it to its end, and behind it the payload list.
+// An MLME group from an offset of it to its end, and behind it the payload list.
 fn group(s: &[u8], at: usize, to: usize, end: usize, w: Walk) -> Walk
     requires { ⌜ (at ≤ to) × (to ≤ end) ⌝ }
     ensures { λ r. ⌜ GroupIs (now (s .entry)) at to end w r ⌝ }
@@ -146,7 +146,7 @@ fn group(s: &[u8], at: usize, to: usize, end: usize, w: Walk) -> Walk
     }
 }
 
-// The payload list from a place to an end, with what was noted before.
+// The payload list from an offset to an end, with what was noted before.
 pub fn payload_list(s: &[u8], at: usize, end: usize, w: Walk) -> Walk
     ensures { λ r. ⌜ r ≡ payloadList (now (s .entry)) at end w ⌝ }
 {

@@ -1,4 +1,4 @@
--- The laws of the lists: what the list from a place on gives, the whole list gives. For each way of a step one law, with the step that
+-- The laws of the lists: what the list from an offset on gives, the whole list gives. For each way of a step one law, with the step that
 -- was taken as a variable. Assumes nothing.
 use Prim.Native.Nat.{ℕ, zero, suc, _+_, _-_, _*_, _<_, _≤_}
 use mathlib.Core.Path.{_≡_, refl, sym, _∙_}

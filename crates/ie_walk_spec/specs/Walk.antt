@@ -91,13 +91,13 @@ headerGo (suc bound) s at end skipped =
       | header.Fault number ↦ record { fault = number; faulty = at; skipped = skipped; payload = 0 }
     ]
 
--- the header list from a place to an end
+-- the header list from an offset to an end
 unfoldable pub headerList : List ℕ → ℕ → ℕ → Headed
 headerList s at end = headerGo (suc end) s at end 0
 
 -- from the outer list into a group, and back to the outer list at the group's end
 unfoldable mutual
-  -- the payload list from a place on
+  -- the payload list from an offset on
   pub outerGo : ℕ → List ℕ → ℕ → ℕ → Walk → Walk
   outerGo zero s at end w = w
   outerGo (suc bound) s at end w =
@@ -109,7 +109,7 @@ unfoldable mutual
         | outer.Fault number ↦ stopped w number at
       ]
 
-  -- a group from a place of it to its end, and behind it the payload list
+  -- a group from an offset of it to its end, and behind it the payload list
   pub groupGo : ℕ → List ℕ → ℕ → ℕ → ℕ → Walk → Walk
   groupGo zero s at to end w = w
   groupGo (suc bound) s at to end w =
@@ -127,6 +127,6 @@ OuterIs s at end w r = (bound : ℕ) → 2 * (end - at) < bound → r ≡ outerG
 unfoldable pub GroupIs : List ℕ → ℕ → ℕ → ℕ → Walk → Walk → Type 0
 GroupIs s at to end w r = (bound : ℕ) → 2 * (end - at) + 1 < bound → r ≡ groupGo bound s at to end w
 
--- the payload list from a place to an end, with what was noted before
+-- the payload list from an offset to an end, with what was noted before
 unfoldable pub payloadList : List ℕ → ℕ → ℕ → Walk → Walk
 payloadList s at end w = outerGo (suc (2 * end)) s at end w

@@ -1,7 +1,7 @@
 // The walk over a frame's elements. It notes where each known element lies, where the first fault is, and how many elements were
 // skipped; nothing is decoded. Definitions (specs/Walk.antt) and their laws; the crate `element_lists` walks.
 
-// What the walk has found. Places are 0 for an element that was not taken: no element starts at 0.
+// What the walk has found. Offsets are 0 for an element that was not taken: no element starts at 0.
 pub struct Walk {
     pub fault: usize,
     pub faulty: usize,
@@ -15,7 +15,7 @@ pub struct Walk {
     pub joiningend: usize,
 }
 
-// How the header list ended: its fault and the fault's place, how many elements were skipped, and where the payload list begins, 0 if
+// How the header list ended: its fault and the fault's offset, how many elements were skipped, and where the payload list begins, 0 if
 // none follows.
 pub struct Headed {
     pub fault: usize,

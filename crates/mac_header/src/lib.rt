@@ -2,9 +2,9 @@
 ghost use mathlib.Core.Path.{_≡_};
 ghost use Prim.Native.Nat.{_≤_};
 ghost use Rattle.octets_spec.specs.Choice.{ifEq};
-ghost use Rattle.mac_header_spec.specs.Control.{controlOf, addressLength, placesOf};
+ghost use Rattle.mac_header_spec.specs.Control.{controlOf, addressLength, offsetsOf};
 use mac_header_spec::Control;
-use mac_header_spec::FieldPlaces;
+use mac_header_spec::FieldOffsets;
 
 // The parts of a frame control word.
 pub fn control_of(word: u64) -> Control
@@ -31,7 +31,7 @@ fn address_length(mode: u64) -> usize
     2
 }
 
-fn pan_place(suppressed: u64) -> usize
+fn pan_offset(suppressed: u64) -> usize
     ensures { λ r. ⌜ (r ≡ ifEq suppressed 0 3 2) × (r ≤ 3) ⌝ }
 {
     if suppressed == 0 {
@@ -41,13 +41,13 @@ fn pan_place(suppressed: u64) -> usize
 }
 
 // Where the fields of a frame with this control word are.
-pub fn places_of(control: Control) -> FieldPlaces
-    ensures { λ r. ⌜ r ≡ placesOf control ⌝ }
+pub fn offsets_of(control: Control) -> FieldOffsets
+    ensures { λ r. ⌜ r ≡ offsetsOf control ⌝ }
 {
-    let pan = pan_place(control.suppressed);
+    let pan = pan_offset(control.suppressed);
     let destination = pan + 2;
     let source = destination + address_length(control.destination);
-    FieldPlaces {
+    FieldOffsets {
         pan,
         destination,
         source,

@@ -7,7 +7,7 @@ use Rattle.octets_spec.specs.Choice.{ifLt, ifEq}
 use Rattle.octets_spec.specs.Number.{leAt}
 use Rattle.refusal.specs.Refusal.{done, frameTooLong, cut, wrongType, secured, addressing}
 use Rattle.mac_header_spec.specs.declared.Control.{Control}
-use Rattle.mac_header_spec.specs.declared.FieldPlaces.{FieldPlaces}
+use Rattle.mac_header_spec.specs.declared.FieldOffsets.{FieldOffsets}
 
 -- frame control, bits 0 to 15: type (3), security, pending, acknowledge request, PAN ID compression, reserved, sequence suppressed,
 -- elements present, destination mode (2), version (2), source mode (2)
@@ -46,23 +46,23 @@ unfoldable pub addressLength : ℕ → ℕ
 addressLength mode = ifEq mode 3 8 2
 
 -- the fields: control word, sequence number (1 byte, unless suppressed), destination PAN (2), destination, source, then the elements
-unfoldable pub placesOf : Control → FieldPlaces
-placesOf control =
+unfoldable pub offsetsOf : Control → FieldOffsets
+offsetsOf control =
     let pan : ℕ = ifEq (control .suppressed) 0 3 2 in
     let destination : ℕ = pan + 2 in
     let source : ℕ = destination + addressLength (control .destination) in
     record { pan = pan; destination = destination; source = source; elements = source + addressLength (control .source) }
 
 -- the checks before the elements: over 125 bytes (1); under 2 bytes (2); frame control; fields cut (2); destination FF FF (5)
-unfoldable pub openingFault : List ℕ → ℕ
-openingFault s =
+unfoldable pub macHeaderFault : List ℕ → ℕ
+macHeaderFault s =
     let control = controlOf (leAt 2 s 0) in
-    let places = placesOf control in
+    let offsets = offsetsOf control in
     ifLt 125 (length s) frameTooLong
     (ifLt (length s) 2 cut
     (ifEq (formFault control) done
-    (ifLt (length s) (places .elements) cut
-    (ifEq (leAt 2 s (places .destination)) 65535
+    (ifLt (length s) (offsets .elements) cut
+    (ifEq (leAt 2 s (offsets .destination)) 65535
     done
     addressing))
     (formFault control)))

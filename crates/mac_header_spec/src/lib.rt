@@ -13,7 +13,7 @@ pub struct Control {
 }
 
 // Where the fixed fields start, and where the elements start behind them. The sequence number, if any, stands at 2.
-pub struct FieldPlaces {
+pub struct FieldOffsets {
     pub pan: usize,
     pub destination: usize,
     pub source: usize,

@@ -1,4 +1,4 @@
-// Numbers in bytes, of any width to 8 and in either order, read at a place of a lent slice. Every function is total: past the end of the
+// Numbers in bytes, of any width to 8 and in either order, read at an offset of a lent slice. Every function is total: past the end of the
 // slice a byte reads as 0.
 ghost use mathlib.Core.Path.{_≡_};
 ghost use Prim.Native.Nat.{_≤_, _<_, _^_, min};
@@ -11,7 +11,7 @@ fn wide(x: u8) -> u64
     x as u64
 }
 
-// The byte at a place.
+// The byte at an offset.
 pub fn byte(s: &[u8], at: usize) -> u64
     ensures { λ r. ⌜ (r ≡ getD (now (s .entry)) at 0) × (r < 256) ⌝ }
 {
@@ -45,7 +45,7 @@ fn le_within(s: &[u8], at: usize, width: u8) -> u64
     n
 }
 
-// The number in `width` bytes from a place on, least significant byte first.
+// The number in `width` bytes from an offset on, least significant byte first.
 pub fn le(s: &[u8], at: usize, width: u8) -> u64
     ensures { λ r. ⌜ (r ≡ leAt (min width 8) (now (s .entry)) at) × (r < 256 ^ min width 8) ⌝ }
 {
@@ -69,7 +69,7 @@ fn be_within(s: &[u8], at: usize, width: u8) -> u64
     n
 }
 
-// The number in `width` bytes from a place on, most significant byte first.
+// The number in `width` bytes from an offset on, most significant byte first.
 pub fn be(s: &[u8], at: usize, width: u8) -> u64
     ensures { λ r. ⌜ (r ≡ beAt (min width 8) (now (s .entry)) at) × (r < 256 ^ min width 8) ⌝ }
 {

@@ -5,7 +5,7 @@ ghost use Prim.Native.Nat.{_-_};
 pub mod get;
 pub mod put;
 
-// How many bytes lie from a place to another, and 0 if the second comes before the first.
+// How many bytes lie from an offset to another, and 0 if the second comes before the first.
 pub fn span(from: usize, to: usize) -> usize
     ensures { λ r. ⌜ r ≡ to - from ⌝ }
 {

@@ -59,8 +59,8 @@ module _ (s : List ℕ) (at width : ℕ) where
       unfolding leAt
       le-turn b is one =
           let one-more : width - (left - 1) ≡ suc (width - left) = omega arith in
-          let place : at + (left - 1) + 1 ≡ at + left = omega arith in
-          rw (one-more, place) (more _ (width - left) n b _ so-far one (omega arith))
+          let offset : at + (left - 1) + 1 ≡ at + left = omega arith in
+          rw (one-more, offset) (more _ (width - left) n b _ so-far one (omega arith))
 
       pub le-times : width ≤ 8 → Fits w64 (n * 256)
       le-times wide = record { fits = omega (arith, so-far .small, few (width - left) (omega arith)) }

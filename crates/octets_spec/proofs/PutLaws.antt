@@ -9,7 +9,7 @@ use native.Mathlib.Omega.{arith}
 use lib.Dec.{lit<, lit≤}
 use lib.ListN.{length, getD, set, drop, length-set}
 use lib.Seq.{sets, drop-cons, set-out, set-comm, getD-set-same, getD-set-other}
-use Rattle.octets_spec.specs.Number.{leAt, beAt, leBytes, beBytes, stored, ReadsBack, ReadsBackInARoom}
+use Rattle.octets_spec.specs.Number.{leAt, beAt, leBytes, beBytes, stored, ReadsBack, ReadsBackInABuffer}
 
 -- ---- a number's remainder by a product, part by part
 mod-mul : (a b n : ℕ) → 0 < a → 0 < b → n % (a * b) ≡ n % a + a * (n / a % b)
@@ -40,40 +40,40 @@ stored-out = sets-out
 -- ---- what was put reads back, in either order
 pub le-back : ReadsBack leBytes leAt
 unfolding leAt leBytes stored
-le-back zero n at room fits = sym (mod-one n)
-le-back (suc width) n at room fits =
-    let next : suc at + width ≤ length (set room at (n % 256)) = omega (arith, length-set room at (n % 256)) in
-    rw (add-one at, before-sets (set room at (n % 256)) (leBytes width (n / 256)) at (suc at) (omega arith), getD-set-same room at (n % 256) 0 (omega arith), le-back width (n / 256) (suc at) (set room at (n % 256)) next, pow-succ' 256 width)
+le-back zero n at buffer fits = sym (mod-one n)
+le-back (suc width) n at buffer fits =
+    let next : suc at + width ≤ length (set buffer at (n % 256)) = omega (arith, length-set buffer at (n % 256)) in
+    rw (add-one at, before-sets (set buffer at (n % 256)) (leBytes width (n / 256)) at (suc at) (omega arith), getD-set-same buffer at (n % 256) 0 (omega arith), le-back width (n / 256) (suc at) (set buffer at (n % 256)) next, pow-succ' 256 width)
     (sym (mod-mul 256 (256 ^ width) n (lit< tt) (one-le-pow width 256 (lit< tt))))
 
 pub be-back : ReadsBack beBytes beAt
 unfolding beAt beBytes stored
-be-back zero n at room fits = sym (mod-one n)
-be-back (suc width) n at room fits =
+be-back zero n at buffer fits = sym (mod-one n)
+be-back (suc width) n at buffer fits =
     let first : ℕ = n / 256 ^ width % 256 in
-    let next : suc at + width ≤ length (set room at first) = omega (arith, length-set room at first) in
-    rw (add-one at, before-sets (set room at first) (beBytes width n) at (suc at) (omega arith), getD-set-same room at first 0 (omega arith), be-back width n (suc at) (set room at first) next, pow-suc 256 width)
+    let next : suc at + width ≤ length (set buffer at first) = omega (arith, length-set buffer at first) in
+    rw (add-one at, before-sets (set buffer at first) (beBytes width n) at (suc at) (omega arith), getD-set-same buffer at first 0 (omega arith), be-back width n (suc at) (set buffer at first) next, pow-suc 256 width)
     (omega (arith, mod-mul (256 ^ width) 256 n (one-le-pow width 256 (lit< tt)) (lit< tt)))
 
 -- ---- the loops: what is still to be put gives what the whole gives
-module _ (room : List ℕ) (at width : ℕ) where
-  pub le-start : (n : ℕ) → stored room (at + 0) (leBytes (width - 0) n) ≡ stored room at (leBytes width n)
+module _ (buffer : List ℕ) (at width : ℕ) where
+  pub le-start : (n : ℕ) → stored buffer (at + 0) (leBytes (width - 0) n) ≡ stored buffer at (leBytes width n)
   le-start n = rw (add-zero at, sub-zero width)
 
-  pub le-next : (next whole : List ℕ) (i rest : ℕ) → i < width → next ≡ set room (at + i) (rest % 256) → stored room (at + i) (leBytes (width - i) rest) ≡ whole
+  pub le-next : (next whole : List ℕ) (i rest : ℕ) → i < width → next ≡ set buffer (at + i) (rest % 256) → stored buffer (at + i) (leBytes (width - i) rest) ≡ whole
       → stored next (at + (i + 1)) (leBytes (width - (i + 1)) (rest / 256)) ≡ whole
   unfolding leBytes stored
   le-next next whole i rest more put left =
       let one-less : width - i ≡ suc (width - (i + 1)) = omega arith in
-      let place : at + (i + 1) ≡ suc (at + i) = omega arith in
-      rw (place, put) (rw one-less at left)
+      let offset : at + (i + 1) ≡ suc (at + i) = omega arith in
+      rw (offset, put) (rw one-less at left)
 
-  pub le-end : (whole : List ℕ) (i rest : ℕ) → width ≤ i → stored room (at + i) (leBytes (width - i) rest) ≡ whole → room ≡ whole
+  pub le-end : (whole : List ℕ) (i rest : ℕ) → width ≤ i → stored buffer (at + i) (leBytes (width - i) rest) ≡ whole → buffer ≡ whole
   unfolding leBytes stored
   le-end whole i rest over left = let none : width - i ≡ 0 = omega arith in rw none at left
 
 -- most significant first, the bytes are put from the last one back: those put so far stand from `left` on
-module _ (start room : List ℕ) (at width n : ℕ) where
+module _ (start buffer : List ℕ) (at width n : ℕ) where
   pub be-start : start ≡ stored start (at + width) (beBytes (width - width) n)
   unfolding beBytes stored
   be-start = let none : width - width ≡ 0 = omega arith in rw none
@@ -85,35 +85,35 @@ module _ (start room : List ℕ) (at width n : ℕ) where
     one-more : width - (left - 1) ≡ suc (width - left)
     one-more = omega arith
 
-    pub be-next : (next : List ℕ) → next ≡ set room (at + (left - 1)) (rest % 256) → room ≡ stored start (at + left) (beBytes (width - left) n) → next ≡ stored start (at + (left - 1)) (beBytes (width - (left - 1)) n)
+    pub be-next : (next : List ℕ) → next ≡ set buffer (at + (left - 1)) (rest % 256) → buffer ≡ stored start (at + left) (beBytes (width - left) n) → next ≡ stored start (at + (left - 1)) (beBytes (width - (left - 1)) n)
     unfolding beBytes stored
     be-next next put so-far =
-        let place : at + left ≡ suc (at + (left - 1)) = omega arith in
-        rw (put, so-far, is, one-more, place) (set-before start (beBytes (width - left) n) (at + (left - 1)) (suc (at + (left - 1))) (n / 256 ^ (width - left) % 256) (omega arith))
+        let offset : at + left ≡ suc (at + (left - 1)) = omega arith in
+        rw (put, so-far, is, one-more, offset) (set-before start (beBytes (width - left) n) (at + (left - 1)) (suc (at + (left - 1))) (n / 256 ^ (width - left) % 256) (omega arith))
 
     pub be-next-rest : rest / 256 ≡ n / 256 ^ (width - (left - 1))
     be-next-rest = rw (is, one-more, pow-suc 256 (width - left)) (div-div-eq-div-mul n (256 ^ (width - left)) 256)
 
-  pub be-end : (left : ℕ) → left ≤ 0 → room ≡ stored start (at + left) (beBytes (width - left) n) → room ≡ stored start at (beBytes width n)
+  pub be-end : (left : ℕ) → left ≤ 0 → buffer ≡ stored start (at + left) (beBytes (width - left) n) → buffer ≡ stored start at (beBytes width n)
   be-end left over so-far = let none : left ≡ 0 = omega arith in rw (none, add-zero at, sub-zero width) at so-far
 
-module _ (room done : List ℕ) (at width n : ℕ) where
-  pub le-reads : done ≡ stored room at (leBytes width n) → at + width ≤ length room → leAt width done at ≡ n % 256 ^ width
-  le-reads put fits = rw put (le-back width n at room fits)
+module _ (buffer done : List ℕ) (at width n : ℕ) where
+  pub le-reads : done ≡ stored buffer at (leBytes width n) → at + width ≤ length buffer → leAt width done at ≡ n % 256 ^ width
+  le-reads put fits = rw put (le-back width n at buffer fits)
 
-  pub be-reads : done ≡ stored room at (beBytes width n) → at + width ≤ length room → beAt width done at ≡ n % 256 ^ width
-  be-reads put fits = rw put (be-back width n at room fits)
+  pub be-reads : done ≡ stored buffer at (beBytes width n) → at + width ≤ length buffer → beAt width done at ≡ n % 256 ^ width
+  be-reads put fits = rw put (be-back width n at buffer fits)
 
 -- ---- a list put entry by entry: what is left gives what the whole gives
-pub put-next : (room text whole : List ℕ) (at next i d : ℕ) → next ≡ suc at → i < length text → stored room at (drop i text) ≡ whole → stored (set room at (getD text i d)) next (drop (i + 1) text) ≡ whole
+pub put-next : (buffer text whole : List ℕ) (at next i d : ℕ) → next ≡ suc at → i < length text → stored buffer at (drop i text) ≡ whole → stored (set buffer at (getD text i d)) next (drop (i + 1) text) ≡ whole
 unfolding stored
-put-next room text whole at next i d place more left = let after : i + 1 ≡ suc i = omega arith in rw (place, after) (rw (drop-cons text i d more) at left)
+put-next buffer text whole at next i d offset more left = let after : i + 1 ≡ suc i = omega arith in rw (offset, after) (rw (drop-cons text i d more) at left)
 
--- ---- a room in which a number is put and read
-pub le-in-a-room : ReadsBackInARoom leBytes leAt
+-- ---- a buffer in which a number is put and read
+pub le-in-a-buffer : ReadsBackInABuffer leBytes leAt
 unfolding leAt leBytes stored
-le-in-a-room = (lit≤ tt, refl)
+le-in-a-buffer = (lit≤ tt, refl)
 
-pub be-in-a-room : ReadsBackInARoom beBytes beAt
+pub be-in-a-buffer : ReadsBackInABuffer beBytes beAt
 unfolding beAt beBytes stored
-be-in-a-room = (lit≤ tt, refl)
+be-in-a-buffer = (lit≤ tt, refl)

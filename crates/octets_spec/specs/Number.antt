@@ -1,4 +1,4 @@
--- Numbers held in bytes, for every width: read at a place of a list of bytes, and as the bytes to put there (docs/RULES.md,
+-- Numbers held in bytes, for every width: read at an offset of a list of bytes, and as the bytes to put there (docs/RULES.md,
 -- Numbers in bytes). Past the end of the list a byte reads as 0. Assumes nothing.
 use Prim.Native.Nat.{ℕ, zero, suc, _+_, _*_, _/_, _%_, _^_, _≤_}
 use mathlib.Core.List.{List, [], _∷_}
@@ -26,16 +26,16 @@ unfoldable pub beBytes : ℕ → ℕ → List ℕ
 beBytes zero n = []
 beBytes (suc width) n = n / 256 ^ width % 256 ∷ beBytes width n
 
--- a room with bytes stored one by one from `at` on; past its end nothing is stored
+-- a buffer with bytes stored one by one from `at` on; past its end nothing is stored
 unfoldable pub stored : List ℕ → ℕ → List ℕ → List ℕ
-stored room at bytes = sets room at bytes
+stored buffer at bytes = sets buffer at bytes
 
--- the claim that what was put reads back: read at its place, it is the number's low bytes, and so the number itself where it fits
+-- the claim that what was put reads back: read at its offset, it is the number's low bytes, and so the number itself where it fits
 abbrev pub ReadsBack : (ℕ → ℕ → List ℕ) → (ℕ → List ℕ → ℕ → ℕ) → Type 0
-ReadsBack bytesOf numberAt = (width n at : ℕ) (room : List ℕ) → at + width ≤ length room → numberAt width (stored room at (bytesOf width n)) at ≡ n % 256 ^ width
+ReadsBack bytesOf numberAt = (width n at : ℕ) (buffer : List ℕ) → at + width ≤ length buffer → numberAt width (stored buffer at (bytesOf width n)) at ≡ n % 256 ^ width
 
--- such a room: of four bytes, with a number of two bytes from its second byte on
-abbrev pub ReadsBackInARoom : (ℕ → ℕ → List ℕ) → (ℕ → List ℕ → ℕ → ℕ) → Type 0
-ReadsBackInARoom bytesOf numberAt =
-    let room : List ℕ = replicate 4 0 in
-    (1 + 2 ≤ length room) × (numberAt 2 (stored room 1 (bytesOf 2 4660)) 1 ≡ 4660)
+-- such a buffer: of four bytes, with a number of two bytes from its second byte on
+abbrev pub ReadsBackInABuffer : (ℕ → ℕ → List ℕ) → (ℕ → List ℕ → ℕ → ℕ) → Type 0
+ReadsBackInABuffer bytesOf numberAt =
+    let buffer : List ℕ = replicate 4 0 in
+    (1 + 2 ≤ length buffer) × (numberAt 2 (stored buffer 1 (bytesOf 2 4660)) 1 ≡ 4660)

@@ -37,7 +37,7 @@ missingOrTwice = 7
 abbrev pub outOfLimits : ℕ
 outOfLimits = 8
 
--- the lent room is shorter than the frame to be written
+-- the lent buffer is shorter than the frame to be written
 abbrev pub bufferTooShort : ℕ
 bufferTooShort = 9
 
@@ -45,6 +45,6 @@ bufferTooShort = 9
 abbrev pub unknownNeighbour : ℕ
 unknownNeighbour = 10
 
--- the neighbour is new, and all 32 places of the table are in use
+-- the neighbour is new, and all 32 offsets of the table are in use
 abbrev pub tableFull : ℕ
 tableFull = 11

@@ -18,9 +18,9 @@ pub const SHAPE: u8 = 6;
 pub const MISSING_OR_TWICE: u8 = 7;
 // A number is outside its limits.
 pub const OUT_OF_LIMITS: u8 = 8;
-// The lent room is shorter than the frame to be written.
+// The lent buffer is shorter than the frame to be written.
 pub const BUFFER_TOO_SHORT: u8 = 9;
 // The neighbour is not in the table.
 pub const UNKNOWN_NEIGHBOUR: u8 = 10;
-// The neighbour is new, and all 32 places of the table are in use.
+// The neighbour is new, and all 32 offsets of the table are in use.
 pub const TABLE_FULL: u8 = 11;

@@ -11,7 +11,7 @@ fn result(search: Search) -> Found
     ensures { λ r. ⌜ r ≡ foundOf search ⌝ }
 {
     if search.found {
-        return Found::At(search.place, search.offset);
+        return Found::At(search.index, search.channel_offset);
     }
     Found::Nothing
 }
@@ -20,7 +20,10 @@ fn listen(asn: u64, found: Found) -> Decision
     ensures { λ r. ⌜ r ≡ listenOn asn found ⌝ }
 {
     match found {
-        Found::At(place, offset) => Decision::Listen(place, hopping::channel(asn, offset)),
+        Found::At(index, channel_offset) => Decision::Listen(
+            index,
+            hopping::channel(asn, channel_offset),
+        ),
         Found::Nothing => Decision::Sleep,
     }
 }
@@ -29,7 +32,10 @@ fn transmit(asn: u64, found: Found, other: Decision) -> Decision
     ensures { λ r. ⌜ r ≡ transmitOn asn found other ⌝ }
 {
     match found {
-        Found::At(place, offset) => Decision::Transmit(place, hopping::channel(asn, offset)),
+        Found::At(index, channel_offset) => Decision::Transmit(
+            index,
+            hopping::channel(asn, channel_offset),
+        ),
         Found::Nothing => other,
     }
 }

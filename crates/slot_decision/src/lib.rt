@@ -25,13 +25,13 @@ fn begin(asn: u64, size: u16) -> Scan
         below: true,
         transmit: Search {
             found: false,
-            place: 0,
-            offset: 0,
+            index: 0,
+            channel_offset: 0,
         },
         receive: Search {
             found: false,
-            place: 0,
-            offset: 0,
+            index: 0,
+            channel_offset: 0,
         },
     }
 }
@@ -64,10 +64,10 @@ pub fn decide_listed(
         return Decision::Refused;
     }
     let mut seen = begin(asn, size);
-    let mut place = count;
-    while 0 < place {
-        place -= 1;
-        seen = step(seen, links[place], place);
+    let mut index = count;
+    while 0 < index {
+        index -= 1;
+        seen = step(seen, links[index], index);
     }
     conclude(seen, count, id, asn, waits)
 }

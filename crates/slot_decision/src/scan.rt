@@ -25,38 +25,38 @@ fn may_receive(link: Link) -> bool
     link.options / 2 % 2 == 1
 }
 
-fn pick_place(serves: bool, place: usize, behind: usize) -> usize
-    ensures { λ r. ⌜ r ≡ ifOn serves place behind ⌝ }
+fn pick_index(serves: bool, index: usize, behind: usize) -> usize
+    ensures { λ r. ⌜ r ≡ ifOn serves index behind ⌝ }
 {
     if serves {
-        return place;
+        return index;
     }
     behind
 }
 
-fn pick_offset(serves: bool, offset: u16, behind: u16) -> u16
-    ensures { λ r. ⌜ r ≡ ifOn serves offset behind ⌝ }
+fn pick_offset(serves: bool, channel_offset: u16, behind: u16) -> u16
+    ensures { λ r. ⌜ r ≡ ifOn serves «channel_offset» behind ⌝ }
 {
     if serves {
-        return offset;
+        return channel_offset;
     }
     behind
 }
 
 // This link if it serves, else what was found behind it.
-fn searching(serves: bool, place: usize, offset: u16, behind: Search) -> Search
-    ensures { λ r. ⌜ r ≡ searched serves place offset behind ⌝ }
+fn searching(serves: bool, index: usize, channel_offset: u16, behind: Search) -> Search
+    ensures { λ r. ⌜ r ≡ searched serves index «channel_offset» behind ⌝ }
 {
     Search {
         found: serves | behind.found,
-        place: pick_place(serves, place, behind.place),
-        offset: pick_offset(serves, offset, behind.offset),
+        index: pick_index(serves, index, behind.index),
+        channel_offset: pick_offset(serves, channel_offset, behind.channel_offset),
     }
 }
 
-// One link more in front of those seen, which stands at this place of the list.
-pub fn step(seen: Scan, link: Link, place: usize) -> Scan
-    ensures { λ r. ⌜ r ≡ stepped seen link place ⌝ }
+// One link more in front of those seen, which stands at this index of the list.
+pub fn step(seen: Scan, link: Link, index: usize) -> Scan
+    ensures { λ r. ⌜ r ≡ stepped seen link index ⌝ }
 {
     let active = is_active(seen.slot, link);
     let transmit = seen.transmit;
@@ -65,7 +65,17 @@ pub fn step(seen: Scan, link: Link, place: usize) -> Scan
         size: seen.size,
         slot: seen.slot,
         below: (link.timeslot < seen.size) & seen.below,
-        transmit: searching(active & may_transmit(link), place, link.offset, transmit),
-        receive: searching(active & may_receive(link), place, link.offset, receive),
+        transmit: searching(
+            active & may_transmit(link),
+            index,
+            link.channel_offset,
+            transmit,
+        ),
+        receive: searching(
+            active & may_receive(link),
+            index,
+            link.channel_offset,
+            receive,
+        ),
     }
 }

@@ -26,25 +26,25 @@ pub fn answer(decision: Decision) -> SlotAnswer
             number: OUT_OF_LIMITS,
             action: 0,
             channel: 0,
-            place: 0,
+            index: 0,
         },
         Decision::Sleep => SlotAnswer {
             number: DONE,
             action: 0,
             channel: 0,
-            place: 0,
+            index: 0,
         },
-        Decision::Transmit(place, channel) => SlotAnswer {
+        Decision::Transmit(index, channel) => SlotAnswer {
             number: DONE,
             action: 1,
             channel,
-            place,
+            index,
         },
-        Decision::Listen(place, channel) => SlotAnswer {
+        Decision::Listen(index, channel) => SlotAnswer {
             number: DONE,
             action: 2,
             channel,
-            place,
+            index,
         },
     }
 }

@@ -20,41 +20,41 @@ use Rattle.slot_spec.specs.declared.Scan.{Scan}
 use Rattle.slot_spec.specs.declared.Decision.{Decision}
 use Rattle.slot_spec.specs.declared.Decision.the-variants.{Refused}
 
--- what is known of a list whose places count from `place`
+-- what is known of a list whose indices count from `index`
 unfoldable pub scanned : Scan → ℕ → List Link → Scan
-scanned start place [] = start
-scanned start place (link ∷ links) = stepped (scanned start (suc place) links) link place
+scanned start index [] = start
+scanned start index (link ∷ links) = stepped (scanned start (suc index) links) link index
 
 -- what is known of a list, in the words of the definition
 abbrev known : Scan → ℕ → List Link → Scan
-known start place links = record {
+known start index links = record {
   size = start .size;
   slot = start .slot;
   below = timeslotsBelow (start .size) links;
-  transmit = searchOf (firstActive (start .slot) 0 place links);
-  receive = searchOf (firstActive (start .slot) 1 place links);
+  transmit = searchOf (firstActive (start .slot) 0 index links);
+  receive = searchOf (firstActive (start .slot) 1 index links);
 }
 
-searched-is : (serves : Bool) (place offset : ℕ) (found : Found) → searched serves place offset (searchOf found) ≡ searchOf (ifOn serves (At place offset) found)
+searched-is : (serves : Bool) (index offset : ℕ) (found : Found) → searched serves index offset (searchOf found) ≡ searchOf (ifOn serves (At index offset) found)
 unfolding searched ifOn
-searched-is true place offset found = refl
-searched-is false place offset found = refl
+searched-is true index offset found = refl
+searched-is false index offset found = refl
 
 found-is : (found : Found) → foundOf (searchOf found) ≡ found
 unfolding foundOf ifOn
 found-is Nothing = refl
-found-is (At place offset) = refl
+found-is (At index offset) = refl
 
-scanned-is : (asn size place : ℕ) (links : List Link) → scanned (begun asn size) place links ≡ known (begun asn size) place links
+scanned-is : (asn size index : ℕ) (links : List Link) → scanned (begun asn size) index links ≡ known (begun asn size) index links
 unfolding scanned stepped begun firstActive timeslotsBelow
-scanned-is asn size place [] = refl
-scanned-is asn size place (link ∷ links) = rw (scanned-is asn size (suc place) links) (simp searched-is)
+scanned-is asn size index [] = refl
+scanned-is asn size index (link ∷ links) = rw (scanned-is asn size (suc index) links) (simp searched-is)
 
 decided : (links : List Link) (size id asn : ℕ) (waits : Bool) → concluded (scanned (begun asn size) 0 links) (length links) id asn waits ≡ decision links size id asn waits
 unfolding concluded decision begun
 decided links size id asn waits = rw (scanned-is asn size 0 links) (simp found-is)
 
--- ---- a loop through a list: what is known of the links from a place on
+-- ---- a loop through a list: what is known of the links from an index on
 module _ (links : List Link) (start : Scan) where
   pub begin-at-end : start ≡ scanned start (length links) (drop (length links) links)
   unfolding scanned

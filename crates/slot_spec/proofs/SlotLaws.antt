@@ -49,14 +49,14 @@ module _ (link : Link) where
   receives = refl
 
 -- ---- a search
-module _ (serves : Bool) (place offset : ℕ) (behind : Search) where
-  pub searches : (found : Bool) (p o : ℕ) → found ≡ (serves || behind .found) → p ≡ ifOn serves place (behind .place) → o ≡ ifOn serves offset (behind .offset)
-      → record { found = found; place = p; offset = o } ≡ searched serves place offset behind
+module _ (serves : Bool) (index offset : ℕ) (behind : Search) where
+  pub searches : (found : Bool) (p o : ℕ) → found ≡ (serves || behind .found) → p ≡ ifOn serves index (behind .index) → o ≡ ifOn serves offset (behind .«channel_offset»)
+      → record { found = found; index = p; «channel_offset» = o } ≡ searched serves index offset behind
   unfolding searched
   searches found p o e₁ e₂ e₃ = rw (e₁, e₂, e₃)
 
 module _ (search : Search) where
-  pub results : search .found ≡ true → At (search .place) (search .offset) ≡ foundOf search
+  pub results : search .found ≡ true → At (search .index) (search .«channel_offset») ≡ foundOf search
   unfolding foundOf
   results e = if-on _ _ _ e refl
 
@@ -68,28 +68,28 @@ pub begins : (asn size slot : ℕ) → slot ≡ slotOffset asn size → record {
 unfolding begun
 begins asn size slot e = rw e
 
-pub steps : (seen : Scan) (link : Link) (place : ℕ) (on sends hears below tx rx : Bool) (transmit receive : Search)
+pub steps : (seen : Scan) (link : Link) (index : ℕ) (on sends hears below tx rx : Bool) (transmit receive : Search)
     → on ≡ isActive (seen .slot) link → below ≡ (ltb (link .timeslot) (seen .size) && seen .below)
-    → sends ≡ optionBit 0 link → tx ≡ (on && sends) → transmit ≡ searched tx place (link .offset) (seen .transmit)
-    → hears ≡ optionBit 1 link → rx ≡ (on && hears) → receive ≡ searched rx place (link .offset) (seen .receive)
-    → record { size = seen .size; slot = seen .slot; below = below; transmit = transmit; receive = receive } ≡ stepped seen link place
+    → sends ≡ optionBit 0 link → tx ≡ (on && sends) → transmit ≡ searched tx index (link .«channel_offset») (seen .transmit)
+    → hears ≡ optionBit 1 link → rx ≡ (on && hears) → receive ≡ searched rx index (link .«channel_offset») (seen .receive)
+    → record { size = seen .size; slot = seen .slot; below = below; transmit = transmit; receive = receive } ≡ stepped seen link index
 unfolding stepped
-steps seen link place on sends hears below tx rx transmit receive e₁ e₂ e₃ e₄ e₅ e₆ e₇ e₈ = rw (e₅, e₈, e₄, e₇, e₃, e₆, e₁, e₂)
+steps seen link index on sends hears below tx rx transmit receive e₁ e₂ e₃ e₄ e₅ e₆ e₇ e₈ = rw (e₅, e₈, e₄, e₇, e₃, e₆, e₁, e₂)
 
 -- ---- from what was found to the decision
 module _ (asn : ℕ) where
   module _ (found : Found) where
-    pub listens : (place offset channel : ℕ) → found ≡ At place offset → channel ≡ channelOf asn offset → Listen place channel ≡ listenOn asn found
+    pub listens : (index offset channel : ℕ) → found ≡ At index offset → channel ≡ channelOf asn offset → Listen index channel ≡ listenOn asn found
     unfolding listenOn
-    listens place offset channel e f = rw (e, f)
+    listens index offset channel e f = rw (e, f)
 
     pub sleeps : found ≡ Nothing → Sleep ≡ listenOn asn found
     unfolding listenOn
     sleeps e = rw e
 
-    pub sends : (other : Decision) (place offset channel : ℕ) → found ≡ At place offset → channel ≡ channelOf asn offset → Transmit place channel ≡ transmitOn asn found other
+    pub sends : (other : Decision) (index offset channel : ℕ) → found ≡ At index offset → channel ≡ channelOf asn offset → Transmit index channel ≡ transmitOn asn found other
     unfolding transmitOn
-    sends other place offset channel e f = rw (e, f)
+    sends other index offset channel e f = rw (e, f)
 
     pub sends-not : (other : Decision) → found ≡ Nothing → other ≡ transmitOn asn found other
     unfolding transmitOn
@@ -119,20 +119,20 @@ module _ (seen : Scan) (count id asn : ℕ) (waits ok : Bool) (e : ok ≡ limits
 
 -- ---- the numbers of a decision
 module _ (d : Decision) where
-  pub answers-refused : d ≡ Refused → record { number = 8; action = 0; channel = 0; place = 0 } ≡ answerOf d
+  pub answers-refused : d ≡ Refused → record { number = 8; action = 0; channel = 0; index = 0 } ≡ answerOf d
   unfolding answerOf
   answers-refused e = rw e
 
-  pub answers-sleep : d ≡ Sleep → record { number = 0; action = 0; channel = 0; place = 0 } ≡ answerOf d
+  pub answers-sleep : d ≡ Sleep → record { number = 0; action = 0; channel = 0; index = 0 } ≡ answerOf d
   unfolding answerOf
   answers-sleep e = rw e
 
-  pub answers-transmit : (place channel : ℕ) → d ≡ Transmit place channel → record { number = 0; action = 1; channel = channel; place = place } ≡ answerOf d
+  pub answers-transmit : (index channel : ℕ) → d ≡ Transmit index channel → record { number = 0; action = 1; channel = channel; index = index } ≡ answerOf d
   unfolding answerOf
-  answers-transmit place channel e = rw e
+  answers-transmit index channel e = rw e
 
-  pub answers-listen : (place channel : ℕ) → d ≡ Listen place channel → record { number = 0; action = 2; channel = channel; place = place } ≡ answerOf d
+  pub answers-listen : (index channel : ℕ) → d ≡ Listen index channel → record { number = 0; action = 2; channel = channel; index = index } ≡ answerOf d
   unfolding answerOf
-  answers-listen place channel e = rw e
+  answers-listen index channel e = rw e
 
 pub ruleset slots = (choices, no-slot, some-slot, slot-fits, active, transmits, receives, searches, results, results-none, begins, steps, listens, sleeps, sends, sends-not, acts-waiting, acts-idle, checks, concludes, refuses, answers-refused, answers-sleep, answers-transmit, answers-listen)

@@ -4,9 +4,9 @@ use Rattle.slot_spec.specs.declared.Decision.{Decision}
 use Rattle.slot_spec.specs.declared.Decision.the-variants.{Refused, Sleep, Transmit, Listen}
 use Rattle.slot_spec.specs.declared.SlotAnswer.{SlotAnswer}
 
--- a refused decision is sleep with the refusal's number, and sleep has place 0 and channel 0; action 0 sleep, 1 transmit, 2 listen
+-- a refused decision is sleep with the refusal's number, and sleep has index 0 and channel 0; action 0 sleep, 1 transmit, 2 listen
 unfoldable pub answerOf : Decision → SlotAnswer
-answerOf Refused = record { number = outOfLimits; action = 0; channel = 0; place = 0 }
-answerOf Sleep = record { number = done; action = 0; channel = 0; place = 0 }
-answerOf (Transmit place channel) = record { number = done; action = 1; channel = channel; place = place }
-answerOf (Listen place channel) = record { number = done; action = 2; channel = channel; place = place }
+answerOf Refused = record { number = outOfLimits; action = 0; channel = 0; index = 0 }
+answerOf Sleep = record { number = done; action = 0; channel = 0; index = 0 }
+answerOf (Transmit index channel) = record { number = done; action = 1; channel = channel; index = index }
+answerOf (Listen index channel) = record { number = done; action = 2; channel = channel; index = index }

@@ -16,29 +16,29 @@ use Rattle.slot_spec.specs.declared.Decision.the-variants.{Refused}
 
 -- a search that has found something, and one that has not
 abbrev pub searchOf : Found → Search
-searchOf Nothing = record { found = false; place = 0; offset = 0 }
-searchOf (At place offset) = record { found = true; place = place; offset = offset }
+searchOf Nothing = record { found = false; index = 0; «channel_offset» = 0 }
+searchOf (At index offset) = record { found = true; index = index; «channel_offset» = offset }
 
 -- what a search has found
 unfoldable pub foundOf : Search → Found
-foundOf search = ifOn (search .found) (At (search .place) (search .offset)) Nothing
+foundOf search = ifOn (search .found) (At (search .index) (search .«channel_offset»)) Nothing
 
 -- a search after a link: that link if it serves, else what was found behind it
 unfoldable pub searched : Bool → ℕ → ℕ → Search → Search
-searched serves place offset behind = record { found = serves || behind .found; place = ifOn serves place (behind .place); offset = ifOn serves offset (behind .offset) }
+searched serves index offset behind = record { found = serves || behind .found; index = ifOn serves index (behind .index); «channel_offset» = ifOn serves offset (behind .«channel_offset») }
 
 -- what is known of no links
 unfoldable pub begun : ℕ → ℕ → Scan
 begun asn size = record { size = size; slot = slotOffset asn size; below = true; transmit = searchOf Nothing; receive = searchOf Nothing }
 
--- what is known with one link more in front, which stands at this place
+-- what is known with one link more in front, which stands at this index
 unfoldable pub stepped : Scan → Link → ℕ → Scan
-stepped seen link place = record {
+stepped seen link index = record {
   size = seen .size;
   slot = seen .slot;
   below = ltb (link .timeslot) (seen .size) && seen .below;
-  transmit = searched (isActive (seen .slot) link && optionBit 0 link) place (link .offset) (seen .transmit);
-  receive = searched (isActive (seen .slot) link && optionBit 1 link) place (link .offset) (seen .receive);
+  transmit = searched (isActive (seen .slot) link && optionBit 0 link) index (link .«channel_offset») (seen .transmit);
+  receive = searched (isActive (seen .slot) link && optionBit 1 link) index (link .«channel_offset») (seen .receive);
 }
 
 -- the decision from what is known after a list of so many links

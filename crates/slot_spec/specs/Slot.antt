@@ -33,20 +33,20 @@ isActive slot link = eqb (link .timeslot) slot
 unfoldable pub optionBit : ℕ → Link → Bool
 optionBit bit link = eqb (link .options / 2 ^ bit % 2) 1
 
--- the first listed link that is active in a slot and has an option bit; places count from `place`
+-- the first listed link that is active in a slot and has an option bit; indices count from `index`
 unfoldable pub firstActive : ℕ → ℕ → ℕ → List Link → Found
-firstActive slot bit place [] = Nothing
-firstActive slot bit place (link ∷ links) = ifOn (isActive slot link && optionBit bit link) (At place (link .offset)) (firstActive slot bit (suc place) links)
+firstActive slot bit index [] = Nothing
+firstActive slot bit index (link ∷ links) = ifOn (isActive slot link && optionBit bit link) (At index (link .«channel_offset»)) (firstActive slot bit (suc index) links)
 
 -- transmit on the link that was found, or else do the other
 unfoldable pub transmitOn : ℕ → Found → Decision → Decision
 transmitOn asn Nothing other = other
-transmitOn asn (At place offset) other = Transmit place (channelOf asn offset)
+transmitOn asn (At index offset) other = Transmit index (channelOf asn offset)
 
 -- listen on the link that was found, or else sleep
 unfoldable pub listenOn : ℕ → Found → Decision
 listenOn asn Nothing = Sleep
-listenOn asn (At place offset) = Listen place (channelOf asn offset)
+listenOn asn (At index offset) = Listen index (channelOf asn offset)
 
 -- if a frame waits, transmit on the first link for that; else listen on the first link for that; else sleep
 unfoldable pub action : ℕ → Bool → Found → Found → Decision

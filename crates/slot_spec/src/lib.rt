@@ -1,7 +1,7 @@
 // What a tag does in a slot: the decision, how a list of links is gone through for it, and the decision's numbers.
 
 // What is done in a slot: nothing, because the schedule was refused or because the slot is free, or a frame is sent or awaited on
-// the link at a place of the list, on a channel.
+// the link at an index of the list, on a channel.
 pub enum Decision {
     Refused,
     Sleep,
@@ -9,16 +9,16 @@ pub enum Decision {
     Listen(usize, u8),
 }
 
-// The numbers of a decision: of the refusal, of the action (0 sleep, 1 transmit, 2 listen), the channel and the link's place.
+// The numbers of a decision: of the refusal, of the action (0 sleep, 1 transmit, 2 listen), the channel and the link's index.
 #[repr(C)]
 pub struct SlotAnswer {
     pub number: u8,
     pub action: u8,
     pub channel: u8,
-    pub place: usize,
+    pub index: usize,
 }
 
-// What a search through the list has found: the place and the channel offset of a link.
+// What a search through the list has found: the index and the channel offset of a link.
 pub enum Found {
     Nothing,
     At(usize, u16),
@@ -27,11 +27,11 @@ pub enum Found {
 // The same while the search goes on, as numbers that each turn makes anew (an enum would be copied with its padding).
 pub struct Search {
     pub found: bool,
-    pub place: usize,
-    pub offset: u16,
+    pub index: usize,
+    pub channel_offset: u16,
 }
 
-// What is known of the links from a place on: the slotframe's size and the slot in it, whether every timeslot is below the size, and
+// What is known of the links from an index on: the slotframe's size and the slot in it, whether every timeslot is below the size, and
 // the first active link that may transmit and the first that may receive.
 pub struct Scan {
     pub size: u16,

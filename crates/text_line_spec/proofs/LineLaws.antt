@@ -59,29 +59,29 @@ digits-few n k small h =
     (λ few. few)
 
 -- ---- a text put byte by byte: what is left gives what the whole gives
-module _ (room text : List ℕ) (at : ℕ) where
-  pub text-start : stored room (at + 0) (drop 0 text) ≡ stored room at text
+module _ (buffer text : List ℕ) (at : ℕ) where
+  pub text-start : stored buffer (at + 0) (drop 0 text) ≡ stored buffer at text
   text-start = rw (add-zero at)
 
-  pub text-next : (whole : List ℕ) (i d : ℕ) → i < length text → stored room (at + i) (drop i text) ≡ whole → stored (set room (at + i) (getD text i d)) (at + (i + 1)) (drop (i + 1) text) ≡ whole
-  text-next whole i d = put-next room text whole (at + i) (at + (i + 1)) i d (omega arith)
+  pub text-next : (whole : List ℕ) (i d : ℕ) → i < length text → stored buffer (at + i) (drop i text) ≡ whole → stored (set buffer (at + i) (getD text i d)) (at + (i + 1)) (drop (i + 1) text) ≡ whole
+  text-next whole i d = put-next buffer text whole (at + i) (at + (i + 1)) i d (omega arith)
 
-  pub text-end : (start : List ℕ) (i : ℕ) → i ≤ length text → length text ≤ i → length room ≡ length start → stored room (at + i) (drop i text) ≡ stored start at text → PartPut start at text room (at + i)
+  pub text-end : (start : List ℕ) (i : ℕ) → i ≤ length text → length text ≤ i → length buffer ≡ length start → stored buffer (at + i) (drop i text) ≡ stored start at text → PartPut start at text buffer (at + i)
   unfolding stored
-  text-end start i within over long left = record { bytes = rw (drop-of-length-le text over) at left; size = long; place = let all : i ≡ length text = omega arith in rw all }
+  text-end start i within over long left = record { bytes = rw (drop-of-length-le text over) at left; size = long; offset = let all : i ≡ length text = omega arith in rw all }
 
 -- ---- parts in a row
 sets-append : (s xs ys : List ℕ) (at : ℕ) → sets s at (xs ++ ys) ≡ sets (sets s at xs) (at + length xs) ys
 sets-append s [] ys at = rw (add-zero at)
-sets-append s (x ∷ xs) ys at = let place : at + suc (length xs) ≡ suc at + length xs = omega arith in rw place (sets-append (set s at x) xs ys (suc at))
+sets-append s (x ∷ xs) ys at = let offset : at + suc (length xs) ≡ suc at + length xs = omega arith in rw offset (sets-append (set s at x) xs ys (suc at))
 
 module _ (s xs t : List ℕ) (at a : ℕ) (first : PartPut s at xs t a) where
   row : (ys u : List ℕ) (b : ℕ) → PartPut t a ys u b → PartPut s at (xs ++ ys) u b
   unfolding stored
   row ys u b second = record {
-    bytes = rw (second .bytes, first .place, first .bytes) (sym (sets-append s xs ys at));
+    bytes = rw (second .bytes, first .offset, first .bytes) (sym (sets-append s xs ys at));
     size = second .size ∙ first .size;
-    place = omega (arith, second .place, first .place, length-append xs ys);
+    offset = omega (arith, second .offset, first .offset, length-append xs ys);
   }
 
   pub field-put : (n : ℕ) (u : List ℕ) (b : ℕ) → PartPut t a (decimal n) u b → PartPut s at (field xs n) u b
@@ -111,33 +111,33 @@ module _ (s d t : List ℕ) (at k r : ℕ) (put : PartPut s at (take k d) t r) w
   decimal-put n h e = let same : take k d ≡ decimal n = e ∙ decimal-is n k h in rw same at put
 
   pub decimal-most : (n : ℕ) → n < 18446744073709551616 → Fewest 10 1 n k → k ≡ length (take k d) → r ≤ at + 20
-  decimal-most n small h long = omega (arith, digits-few n k small h, long, put .place)
+  decimal-most n small h long = omega (arith, digits-few n k small h, long, put .offset)
 
-pub decimal-fits : (d : List ℕ) (room at k n : ℕ) → at + 20 ≤ room → n < 18446744073709551616 → Fewest 10 1 n k → k ≡ length (take k d) → at + length (take k d) ≤ room
-decimal-fits d room at k n wide small h long = omega (arith, wide, digits-few n k small h, long)
+pub decimal-fits : (d : List ℕ) (buffer at k n : ℕ) → at + 20 ≤ buffer → n < 18446744073709551616 → Fewest 10 1 n k → k ≡ length (take k d) → at + length (take k d) ≤ buffer
+decimal-fits d buffer at k n wide small h long = omega (arith, wide, digits-few n k small h, long)
 
--- ---- the line: a room is too small for it, or it is not
-module _ (room : ℕ) where
-  pub small-room : (xs line : List ℕ) → 128 ≤ room → room < 128 → xs ≡ line
-  small-room xs line wide small = absurd (omega arith)
+-- ---- the line: a buffer is too small for it, or it is not
+module _ (buffer : ℕ) where
+  pub small-buffer : (xs line : List ℕ) → 128 ≤ buffer → buffer < 128 → xs ≡ line
+  small-buffer xs line wide small = absurd (omega arith)
 
-  pub wide-room : (r : ℕ) → room < 128 → 128 ≤ room → r ≡ 0
-  wide-room r small wide = absurd (omega arith)
+  pub wide-buffer : (r : ℕ) → buffer < 128 → 128 ≤ buffer → r ≡ 0
+  wide-buffer r small wide = absurd (omega arith)
 
 module _ (s t xs : List ℕ) (r : ℕ) (put : PartPut s 0 xs t r) (most : r ≤ 128) (wide : 128 ≤ length s) where
   whole : t ≡ xs ++ drop r s
   unfolding stored
   whole =
-      let size : r ≡ length xs = omega (arith, put .place) in
+      let size : r ≡ length xs = omega (arith, put .offset) in
       let start : 0 + length xs ≡ length xs = omega arith in
       let fits : 0 + length xs ≤ length s = omega arith in
       rw (put .bytes, size) (rw start at (sets-eq xs s 0 fits))
 
   pub line-there : (line : List ℕ) → xs ≡ line → take r t ≡ line
-  line-there line e = rw whole (take-at xs (drop r s) r (omega (arith, put .place)) ∙ e)
+  line-there line e = rw whole (take-at xs (drop r s) r (omega (arith, put .offset)) ∙ e)
 
   pub line-behind : drop r t ≡ drop r s
-  line-behind = rw whole (drop-at xs (drop r s) r (omega (arith, put .place)))
+  line-behind = rw whole (drop-at xs (drop r s) r (omega (arith, put .offset)))
 
   within : r ≤ length t
   within = omega (arith, put .size)

@@ -67,8 +67,8 @@ refusedText number = field refusedName number ++ newline
 unfoldable pub lineOf : ReadAnswer → List ℕ
 lineOf a = ifEq (a .number) done (acceptedText (a .beacon)) (refusedText (a .number))
 
--- a part of the line was put into a room from a place on: the room then, and the place behind the part
-pub record PartPut (room : List ℕ) (at : ℕ) (part : List ℕ) (after : List ℕ) (next : ℕ) : Type 0 where
-  pub bytes : after ≡ stored room at part
-  pub size : length after ≡ length room
-  pub place : next ≡ at + length part
+-- a part of the line was put into a buffer from an offset on: the buffer then, and the offset behind the part
+pub record PartPut (buffer : List ℕ) (at : ℕ) (part : List ℕ) (after : List ℕ) (next : ℕ) : Type 0 where
+  pub bytes : after ≡ stored buffer at part
+  pub size : length after ≡ length buffer
+  pub offset : next ≡ at + length part

@@ -13,10 +13,10 @@ fn put(n: u64, end: u8) {
     io::write_all(1, &[end]);
 }
 
-fn channel(asn: u64, offset: u16) {
+fn channel(asn: u64, channel_offset: u16) {
     put(asn, b' ');
-    put(offset as u64, b' ');
-    put(hopping::channel(asn, offset) as u64, b'\n');
+    put(channel_offset as u64, b' ');
+    put(hopping::channel(asn, channel_offset) as u64, b'\n');
 }
 
 fn channels() {
@@ -55,10 +55,10 @@ fn slot(links: [Link; 16], count: usize, size: u16, id: u8, asn: u64, waits: boo
     )));
 }
 
-fn link(timeslot: u16, offset: u16, options: u8) -> Link {
+fn link(timeslot: u16, channel_offset: u16, options: u8) -> Link {
     Link {
         timeslot,
-        offset,
+        channel_offset,
         options,
     }
 }

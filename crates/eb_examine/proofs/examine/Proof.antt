@@ -5,8 +5,8 @@ use borrow.Author.Needs.{needs}
 use Rattle.eb_examine.proofs.examine.Statement.{statement}
 use Rattle.eb_examine.proofs.examine.Tie as tie
 
-opening-fault-requires : tie.Need-opening-fault-requires
-opening-fault-requires c κs = search needs
+mac-header-fault-requires : tie.Need-mac-header-fault-requires
+mac-header-fault-requires c κs = search needs
 
 blank-walk-requires : tie.Need-blank-walk-requires
 blank-walk-requires c κs = search needs
@@ -14,8 +14,8 @@ blank-walk-requires c κs = search needs
 returns : tie.Need-returns
 returns c = (search (needs, reading), accepted-lies-inside)
 
-elements-place-requires : tie.Need-elements-place-requires
-elements-place-requires c κs = search needs
+elements-offset-requires : tie.Need-elements-offset-requires
+elements-offset-requires c κs = search needs
 
 elements-walk-requires : tie.Need-elements-walk-requires
 elements-walk-requires c κs = search needs
@@ -30,10 +30,10 @@ pub examine-spec : {M : Type 1} → statement M
 examine-spec =
     tie.close
     (tie.spec
-    opening-fault-requires
+    mac-header-fault-requires
     blank-walk-requires
     returns
-    elements-place-requires
+    elements-offset-requires
     elements-walk-requires
     walk-number-requires
     returns-2)

@@ -16,8 +16,8 @@ source-size-requires c κs = search needs
 add-at-2 : tie.Need-add-at-2
 add-at-2 c = search needs
 
-put-opening-requires : tie.Need-put-opening-requires
-put-opening-requires c κs = search needs
+put-mac-header-requires : tie.Need-put-mac-header-requires
+put-mac-header-requires c κs = search needs
 
 put-elements-requires : tie.Need-put-elements-requires
 put-elements-requires c κs = search needs
@@ -36,7 +36,7 @@ put-frame-spec =
     add-at
     source-size-requires
     add-at-2
-    put-opening-requires
+    put-mac-header-requires
     put-elements-requires
     same-length
     returns)

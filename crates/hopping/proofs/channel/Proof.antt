@@ -20,7 +20,7 @@ array-read-result c = search needs
 
 returns : tie.Need-returns
 unfolding channelOf
-returns c = (ap (λ (entry : ℕ). getD hopping entry 0) (mod-add-mod (c .args .asn) 16 (c .args .offset % 16) ∙ add-mod-mod (c .args .asn) (c .args .offset) 16), hopping-permutes)
+returns c = (ap (λ (entry : ℕ). getD hopping entry 0) (mod-add-mod (c .args .asn) 16 (c .args .channel-offset % 16) ∙ add-mod-mod (c .args .asn) (c .args .channel-offset) 16), hopping-permutes)
 
 pub channel-spec : {M : Type 1} → statement M
 channel-spec = tie.close (tie.spec cast-entry add-entry array-read-result returns)

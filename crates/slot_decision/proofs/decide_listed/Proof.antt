@@ -10,10 +10,10 @@ use Rattle.slot_decision.proofs.decide_listed.Statement.{statement}
 use Rattle.slot_decision.proofs.decide_listed.Tie as tie
 
 abbrev Inv-loop : tie.InvT-loop
-Inv-loop count size id asn waits links seen₀ place₀ seen place = (place ≤ count) × (length links ≡ 16) × (seen ≡ scanned (begun asn size) place (drop place (take count links)))
+Inv-loop count size id asn waits links seen₀ index₀ seen index = (index ≤ count) × (length links ≡ 16) × (seen ≡ scanned (begun asn size) index (drop index (take count links)))
 
 abbrev μ-loop : tie.MeasureT-loop
-μ-loop count size id asn waits links seen₀ place₀ seen place = place
+μ-loop count size id asn waits links seen₀ index₀ seen index = index
 
 returns : tie.Need-returns Inv-loop μ-loop
 returns c = search (needs, listed-over, listed-begin, listed-turn, listed-end)
@@ -24,8 +24,8 @@ begin-requires c κs = search (needs, listed-over, listed-begin, listed-turn, li
 loop-holds : tie.Need-loop-holds Inv-loop μ-loop
 loop-holds c = search (needs, listed-over, listed-begin, listed-turn, listed-end)
 
-sub-place : tie.Need-sub-place Inv-loop μ-loop
-sub-place c = search (needs, listed-over, listed-begin, listed-turn, listed-end)
+sub-index : tie.Need-sub-index Inv-loop μ-loop
+sub-index c = search (needs, listed-over, listed-begin, listed-turn, listed-end)
 
 mul-step : tie.Need-mul-step Inv-loop μ-loop
 mul-step c = search (needs, listed-over, listed-begin, listed-turn, listed-end)
@@ -57,7 +57,7 @@ decide-listed-spec =
     returns
     begin-requires
     loop-holds
-    sub-place
+    sub-index
     mul-step
     array-copy-out-step
     step-requires

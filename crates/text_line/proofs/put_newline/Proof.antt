@@ -9,12 +9,12 @@ use Rattle.text_line_spec.specs.Line.{newline, PartPut}
 use Rattle.text_line.proofs.put_newline.Statement.{statement}
 use Rattle.text_line.proofs.put_newline.Tie as tie
 
-newline-put : (room : List ℕ) (at : ℕ) → PartPut room at newline (set room at 10) (at + 1)
+newline-put : (buffer : List ℕ) (at : ℕ) → PartPut buffer at newline (set buffer at 10) (at + 1)
 unfolding stored
-newline-put room at = record { bytes = refl; size = length-set room at 10; place = refl }
+newline-put buffer at = record { bytes = refl; size = length-set buffer at 10; offset = refl }
 
-slice-write-room : tie.Need-slice-write-room
-slice-write-room c = search needs
+slice-write-buffer : tie.Need-slice-write-buffer
+slice-write-buffer c = search needs
 
 add-result : tie.Need-add-result
 add-result c = search needs
@@ -26,4 +26,4 @@ returns : tie.Need-returns
 returns c = search (needs, newline-put)
 
 pub put-newline-spec : {M : Type 1} → statement M
-put-newline-spec = tie.close (tie.spec slice-write-room add-result same-length returns)
+put-newline-spec = tie.close (tie.spec slice-write-buffer add-result same-length returns)

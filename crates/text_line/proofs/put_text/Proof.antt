@@ -9,22 +9,22 @@ use Rattle.text_line.proofs.put_text.Statement.{statement}
 use Rattle.text_line.proofs.put_text.Tie as tie
 
 abbrev Inv-loop : tie.InvT-loop
-Inv-loop room₀ at text i₀ room i = (i ≤ length text) × (length room ≡ length room₀) × (stored room (at + i) (drop i text) ≡ stored room₀ at text)
+Inv-loop buffer₀ at text i₀ buffer i = (i ≤ length text) × (length buffer ≡ length buffer₀) × (stored buffer (at + i) (drop i text) ≡ stored buffer₀ at text)
 
 abbrev μ-loop : tie.MeasureT-loop
-μ-loop room₀ at text i₀ room i = length text - i
+μ-loop buffer₀ at text i₀ buffer i = length text - i
 
 loop-holds : tie.Need-loop-holds Inv-loop μ-loop
 loop-holds c = search (needs, text-start)
 
-shared-slice-read-room : tie.Need-shared-slice-read-room Inv-loop μ-loop
-shared-slice-read-room c = search needs
+shared-slice-read-buffer : tie.Need-shared-slice-read-buffer Inv-loop μ-loop
+shared-slice-read-buffer c = search needs
 
-add-room : tie.Need-add-room Inv-loop μ-loop
-add-room c = search needs
+add-buffer : tie.Need-add-buffer Inv-loop μ-loop
+add-buffer c = search needs
 
-slice-write-room : tie.Need-slice-write-room Inv-loop μ-loop
-slice-write-room c = search needs
+slice-write-buffer : tie.Need-slice-write-buffer Inv-loop μ-loop
+slice-write-buffer c = search needs
 
 add-i : tie.Need-add-i Inv-loop μ-loop
 add-i c = search needs
@@ -51,9 +51,9 @@ put-text-spec =
     Inv-loop
     μ-loop
     loop-holds
-    shared-slice-read-room
-    add-room
-    slice-write-room
+    shared-slice-read-buffer
+    add-buffer
+    slice-write-buffer
     add-i
     loop-less
     loop-again

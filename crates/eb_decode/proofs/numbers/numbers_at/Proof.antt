@@ -4,8 +4,8 @@ use borrow.Author.Needs.{needs}
 use Rattle.eb_decode.proofs.numbers.numbers_at.Statement.{statement}
 use Rattle.eb_decode.proofs.numbers.numbers_at.Tie as tie
 
-opening-numbers-requires : tie.Need-opening-numbers-requires
-opening-numbers-requires c κs = search needs
+mac-header-numbers-requires : tie.Need-mac-header-numbers-requires
+mac-header-numbers-requires c κs = search needs
 
 element-numbers-requires : tie.Need-element-numbers-requires
 element-numbers-requires c κs = search (needs, laying)
@@ -23,7 +23,7 @@ pub numbers-at-spec : {M : Type 1} → statement M
 numbers-at-spec =
     tie.close
     (tie.spec
-    opening-numbers-requires
+    mac-header-numbers-requires
     element-numbers-requires
     joining-numbers-requires
     joined-requires

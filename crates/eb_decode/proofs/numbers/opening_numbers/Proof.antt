@@ -1,8 +1,8 @@
--- `eb_decode::numbers::opening_numbers` meets its contract. Assumes nothing.
+-- `eb_decode::numbers::mac_header_numbers` meets its contract. Assumes nothing.
 use Rattle.eb_decode.proofs.NumbersLaws.{laying}
 use borrow.Author.Needs.{needs}
-use Rattle.eb_decode.proofs.numbers.opening_numbers.Statement.{statement}
-use Rattle.eb_decode.proofs.numbers.opening_numbers.Tie as tie
+use Rattle.eb_decode.proofs.numbers.mac_header_numbers.Statement.{statement}
+use Rattle.eb_decode.proofs.numbers.mac_header_numbers.Tie as tie
 
 le-requires : tie.Need-le-requires
 le-requires c κs = search needs
@@ -10,8 +10,8 @@ le-requires c κs = search needs
 control-of-requires : tie.Need-control-of-requires
 control-of-requires c κs = search needs
 
-places-of-requires : tie.Need-places-of-requires
-places-of-requires c κs = search needs
+offsets-of-requires : tie.Need-offsets-of-requires
+offsets-of-requires c κs = search needs
 
 choose-requires : tie.Need-choose-requires
 choose-requires c κs = search needs
@@ -34,13 +34,13 @@ source-requires c κs = search (needs, laying)
 returns : tie.Need-returns
 returns c = search (needs, laying)
 
-pub opening-numbers-spec : {M : Type 1} → statement M
-opening-numbers-spec =
+pub mac-header-numbers-spec : {M : Type 1} → statement M
+mac-header-numbers-spec =
     tie.close
     (tie.spec
     le-requires
     control-of-requires
-    places-of-requires
+    offsets-of-requires
     choose-requires
     byte-requires
     choose-requires-2

@@ -9,10 +9,10 @@ use Rattle.eb_frame.proofs.joining.put_network.Statement.{statement}
 use Rattle.eb_frame.proofs.joining.put_network.Tie as tie
 
 abbrev Inv-loop : tie.InvT-loop
-Inv-loop room₀ at used network i₀ room i = (i ≤ used) × (length room ≡ length room₀) × (length network ≡ 16) × (stored room (at + i) (drop i (take used network)) ≡ stored room₀ at (take used network))
+Inv-loop buffer₀ at used network i₀ buffer i = (i ≤ used) × (length buffer ≡ length buffer₀) × (length network ≡ 16) × (stored buffer (at + i) (drop i (take used network)) ≡ stored buffer₀ at (take used network))
 
 abbrev μ-loop : tie.MeasureT-loop
-μ-loop room₀ at used network i₀ room i = used - i
+μ-loop buffer₀ at used network i₀ buffer i = used - i
 
 returns : tie.Need-returns Inv-loop μ-loop
 returns c = search (needs, joinings)

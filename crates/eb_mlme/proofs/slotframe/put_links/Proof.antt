@@ -10,10 +10,10 @@ use Rattle.eb_mlme.proofs.slotframe.put_links.Statement.{statement}
 use Rattle.eb_mlme.proofs.slotframe.put_links.Tie as tie
 
 abbrev Inv-loop : tie.InvT-loop
-Inv-loop room₀ at used links i₀ room i = (i ≤ used) × (length room ≡ length room₀) × (length links ≡ 16) × (stored room (at + 5 * i) (linksBytes (drop i (take used links))) ≡ stored room₀ at (linksBytes (take used links)))
+Inv-loop buffer₀ at used links i₀ buffer i = (i ≤ used) × (length buffer ≡ length buffer₀) × (length links ≡ 16) × (stored buffer (at + 5 * i) (linksBytes (drop i (take used links))) ≡ stored buffer₀ at (linksBytes (take used links)))
 
 abbrev μ-loop : tie.MeasureT-loop
-μ-loop room₀ at used links i₀ room i = used - i
+μ-loop buffer₀ at used links i₀ buffer i = used - i
 
 returns : tie.Need-returns Inv-loop μ-loop
 returns c = search (needs, slotframes)

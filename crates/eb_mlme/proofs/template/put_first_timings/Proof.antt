@@ -10,10 +10,10 @@ use Rattle.eb_mlme.proofs.template.put_first_timings.Statement.{stateme
 use Rattle.eb_mlme.proofs.template.put_first_timings.Tie as tie
 
 abbrev Inv-loop : tie.InvT-loop
-Inv-loop room₀ at timings i₀ room i = (i ≤ 10) × (length room ≡ length room₀) × (stored room (at + 2 * i) (numbersIn 2 (drop i (take 10 timings))) ≡ stored room₀ at (numbersIn 2 (take 10 timings)))
+Inv-loop buffer₀ at timings i₀ buffer i = (i ≤ 10) × (length buffer ≡ length buffer₀) × (stored buffer (at + 2 * i) (numbersIn 2 (drop i (take 10 timings))) ≡ stored buffer₀ at (numbersIn 2 (take 10 timings)))
 
 abbrev μ-loop : tie.MeasureT-loop
-μ-loop room₀ at timings i₀ room i = 10 - i
+μ-loop buffer₀ at timings i₀ buffer i = 10 - i
 
 returns : tie.Need-returns Inv-loop μ-loop
 returns c = search (needs, templates)

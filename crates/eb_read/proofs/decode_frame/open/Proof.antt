@@ -10,8 +10,8 @@ le-requires c κs = search needs
 control-of-requires : tie.Need-control-of-requires
 control-of-requires c κs = search needs
 
-places-of-requires : tie.Need-places-of-requires
-places-of-requires c κs = search needs
+offsets-of-requires : tie.Need-offsets-of-requires
+offsets-of-requires c κs = search needs
 
 sequence-requires : tie.Need-sequence-requires
 sequence-requires c κs = search needs
@@ -34,7 +34,7 @@ open-spec =
     (tie.spec
     le-requires
     control-of-requires
-    places-of-requires
+    offsets-of-requires
     sequence-requires
     le-requires-2
     cast-t8

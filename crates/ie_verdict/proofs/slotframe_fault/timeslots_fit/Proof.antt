@@ -8,10 +8,10 @@ use Rattle.ie_verdict.proofs.slotframe_fault.timeslots_fit.Statement.{s
 use Rattle.ie_verdict.proofs.slotframe_fault.timeslots_fit.Tie as tie
 
 abbrev Inv-loop : tie.InvT-loop
-Inv-loop s at n size place₀ left₀ place left = (left ≤ n) × (place + 5 * left ≡ at + 5 * n) × (timeslotsFit s place left size ≡ timeslotsFit s at n size)
+Inv-loop s at n size offset₀ left₀ offset left = (left ≤ n) × (offset + 5 * left ≡ at + 5 * n) × (timeslotsFit s offset left size ≡ timeslotsFit s at n size)
 
 abbrev μ-loop : tie.MeasureT-loop
-μ-loop s at n size place₀ left₀ place left = left
+μ-loop s at n size offset₀ left₀ offset left = left
 
 loop-holds : tie.Need-loop-holds Inv-loop μ-loop
 loop-holds c = search (needs, verdicts) depth 9
@@ -22,8 +22,8 @@ le-requires c κs = search (needs, verdicts) depth 9
 returns : tie.Need-returns Inv-loop μ-loop
 returns c = search (needs, verdicts) depth 9
 
-add-place : tie.Need-add-place Inv-loop μ-loop
-add-place c = search (needs, verdicts) depth 9
+add-offset : tie.Need-add-offset Inv-loop μ-loop
+add-offset c = search (needs, verdicts) depth 9
 
 sub-left : tie.Need-sub-left Inv-loop μ-loop
 sub-left c = search (needs, verdicts) depth 9
@@ -46,7 +46,7 @@ timeslots-fit-spec =
     loop-holds
     le-requires
     returns
-    add-place
+    add-offset
     sub-left
     loop-less
     loop-again

@@ -9,10 +9,10 @@ use Rattle.octets.proofs.put.put_be.Statement.{statement}
 use Rattle.octets.proofs.put.put_be.Tie as tie
 
 abbrev Inv-loop : tie.InvT-loop
-Inv-loop room₀ at width n rest₀ left₀ room rest left = (left ≤ width) × (length room ≡ length room₀) × (rest ≡ n / 256 ^ (width - left)) × (room ≡ stored room₀ (at + left) (beBytes (width - left) n))
+Inv-loop buffer₀ at width n rest₀ left₀ buffer rest left = (left ≤ width) × (length buffer ≡ length buffer₀) × (rest ≡ n / 256 ^ (width - left)) × (buffer ≡ stored buffer₀ (at + left) (beBytes (width - left) n))
 
 abbrev μ-loop : tie.MeasureT-loop
-μ-loop room₀ at width n rest₀ left₀ room rest left = left
+μ-loop buffer₀ at width n rest₀ left₀ buffer rest left = left
 
 returns : tie.Need-returns Inv-loop μ-loop
 returns c = search (needs, stored-out, be-start, be-start-rest, be-next, be-next-rest, be-end, be-reads)

@@ -5,8 +5,8 @@ use borrow.Author.Needs.{needs}
 use Rattle.octets.proofs.put.put_byte.Statement.{statement}
 use Rattle.octets.proofs.put.put_byte.Tie as tie
 
-slice-write-room : tie.Need-slice-write-room
-slice-write-room c = search needs
+slice-write-buffer : tie.Need-slice-write-buffer
+slice-write-buffer c = search needs
 
 same-length : tie.Need-same-length
 same-length c = search needs
@@ -18,4 +18,4 @@ returns-2 : tie.Need-returns-2
 returns-2 c = sym (set-out _ _ _ (search needs))
 
 pub put-byte-spec : {M : Type 1} → statement M
-put-byte-spec = tie.close (tie.spec slice-write-room same-length returns returns-2)
+put-byte-spec = tie.close (tie.spec slice-write-buffer same-length returns returns-2)

@@ -9,10 +9,10 @@ use Rattle.octets.proofs.put.put_le.Statement.{statement}
 use Rattle.octets.proofs.put.put_le.Tie as tie
 
 abbrev Inv-loop : tie.InvT-loop
-Inv-loop room₀ at width n rest₀ i₀ room rest i = (i ≤ width) × (length room ≡ length room₀) × (stored room (at + i) (leBytes (width - i) rest) ≡ stored room₀ at (leBytes width n))
+Inv-loop buffer₀ at width n rest₀ i₀ buffer rest i = (i ≤ width) × (length buffer ≡ length buffer₀) × (stored buffer (at + i) (leBytes (width - i) rest) ≡ stored buffer₀ at (leBytes width n))
 
 abbrev μ-loop : tie.MeasureT-loop
-μ-loop room₀ at width n rest₀ i₀ room rest i = width - i
+μ-loop buffer₀ at width n rest₀ i₀ buffer rest i = width - i
 
 returns : tie.Need-returns Inv-loop μ-loop
 returns c = search (needs, stored-out, le-start, le-next, le-end, le-reads)

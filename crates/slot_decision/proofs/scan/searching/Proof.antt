@@ -5,11 +5,11 @@ use Rattle.slot_decision.proofs.scan.searching.Tie as tie
 use Rattle.slot_decision.proofs.scan.searching.Reads as reads
 use Rattle.slot_decision.proofs.scan.searching.Lts as lts
 use Rattle.slot_decision.proofs.scan.pick_offset.Reads as pick-offset-reads
-use Rattle.slot_decision.proofs.scan.pick_place.Reads as pick-place-reads
+use Rattle.slot_decision.proofs.scan.pick_index.Reads as pick-index-reads
 
 -- src/lib.rt:52:16
-pick-place-requires : tie.Need-pick-place-requires
-pick-place-requires c κs = search needs
+pick-index-requires : tie.Need-pick-index-requires
+pick-index-requires c κs = search needs
 
 -- src/lib.rt:53:17
 pick-offset-requires : tie.Need-pick-offset-requires
@@ -20,4 +20,4 @@ returns : tie.Need-returns
 returns c = search (needs, slots)
 
 pub searching-spec : {M : Type 1} → statement M
-searching-spec = tie.close (tie.spec pick-place-requires pick-offset-requires returns)
+searching-spec = tie.close (tie.spec pick-index-requires pick-offset-requires returns)

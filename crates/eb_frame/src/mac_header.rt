@@ -1,0 +1,84 @@
+// Frame control and the fixed fields of a frame, put at the start of a lent buffer; past its end nothing is stored.
+ghost use mathlib.Core.Path.{_≡_};
+ghost use Prim.Native.Nat.{_≤_, _<_};
+ghost use lib.ListN.{length};
+ghost use Rattle.octets_spec.specs.Number.{leBytes, stored};
+ghost use Rattle.eb_frame_spec.specs.Frame.{suppressedBit, sequenceBytes, sourceMode, sourceBytes, controlWord, macHeaderBytes};
+use eb_record_spec::Address;
+use eb_record_spec::SequenceNumber;
+
+fn suppressed_bit(sequence: SequenceNumber) -> u64
+    ensures { λ r. ⌜ (r ≡ suppressedBit sequence) × (r ≤ 1) ⌝ }
+{
+    match sequence {
+        SequenceNumber::Absent => {
+            return 1;
+        }
+        SequenceNumber::Number(_) => {
+            return 0;
+        }
+    }
+}
+
+fn source_mode(source: Address) -> u64
+    ensures { λ r. ⌜ (r ≡ sourceMode source) × (r ≤ 3) ⌝ }
+{
+    match source {
+        Address::Short(_) => {
+            return 2;
+        }
+        Address::Extended(_) => {
+            return 3;
+        }
+    }
+}
+
+fn control_word(sequence: SequenceNumber, source: Address) -> u64
+    ensures { λ r. ⌜ (r ≡ controlWord sequence source) × (r < 65536) ⌝ }
+{
+    64 + suppressed_bit(sequence) * 256 + 512 + 2048 + 8192 + source_mode(source) * 16384
+}
+
+// What the byte of a sequence number holds, if there is one.
+fn sequence_number(sequence: SequenceNumber) -> u64
+    ensures { λ r. ⌜ (leBytes (length (sequenceBytes sequence)) r ≡ sequenceBytes sequence) × (r < 256) ⌝ }
+{
+    match sequence {
+        SequenceNumber::Absent => {
+            return 0;
+        }
+        SequenceNumber::Number(n) => {
+            return n as u64;
+        }
+    }
+}
+
+// What the bytes of a source hold.
+fn source_number(source: Address) -> u64
+    ensures { λ r. ⌜ leBytes (length (sourceBytes source)) r ≡ sourceBytes source ⌝ }
+{
+    match source {
+        Address::Short(n) => {
+            return n as u64;
+        }
+        Address::Extended(n) => {
+            return n;
+        }
+    }
+}
+
+// Three numbers: frame control with the sequence number, the destination PAN with the destination FF FF, the source.
+pub fn put_mac_header(buffer: &mut [u8], sequence: SequenceNumber, pan: u16, source: Address)
+    ensures { λ _. ⌜ now (buffer .exit) ≡ stored (now (buffer .entry)) 0 (macHeaderBytes sequence pan source) ⌝ }
+{
+    let size = eb_sizes::sequence_size(sequence);
+    let first = control_word(sequence, source) + sequence_number(sequence) * 65536;
+    octets::put::put_le(buffer, 0, 2 + size as u8, first);
+    octets::put::put_le(buffer, 2 + size, 4, pan as u64 + 65535 * 65536);
+    octets::put::put_le(
+        buffer,
+        6 + size,
+        eb_sizes::source_size(source) as u8,
+        source_number(source),
+    );
+}
