@@ -16,27 +16,31 @@ pub enum SequenceNumber {
 }
 
 // The synchronization element: the ASN (5 bytes on air) and the join metric.
+#[repr(C)]
 pub struct Synchronization {
     pub asn: u64,
     pub metric: u8,
 }
 
 // The timeslot element: the template's ID and, where they are there, its twelve timings in microseconds.
+#[repr(C)]
 pub struct TimeslotTemplate {
     pub id: u8,
     pub timed: bool,
     pub timings: [u32; 12],
 }
 
-// A link of the slotframe: its timeslot, its channel offset and the byte of its options, kept whole.
+// A link of the slotframe: its timeslot, its channel offset and its options, which are one byte on air. The options have 16 bits here, so that
+// a link has no padding; over 255 they are outside the limits of writing.
 #[repr(C)]
 pub struct Link {
     pub timeslot: u16,
     pub channel_offset: u16,
-    pub options: u8,
+    pub options: u16,
 }
 
 // The slotframe and link element: the slotframe's handle and size, and its links, of which the first `count` are used.
+#[repr(C)]
 pub struct Slotframe {
     pub handle: u8,
     pub size: u16,
@@ -46,6 +50,7 @@ pub struct Slotframe {
 
 // Joining information: whether it is there, its R and P flags, its three priorities, the address of the join proxy (there if P is
 // set), and the network ID, of which the first `length` bytes are used.
+#[repr(C)]
 pub struct JoiningInformation {
     pub present: bool,
     pub router: bool,
@@ -63,6 +68,22 @@ pub struct Beacon {
     pub sequence: SequenceNumber,
     pub pan: u16,
     pub source: Address,
+    pub synchronization: Synchronization,
+    pub timeslot: TimeslotTemplate,
+    pub hopping: u8,
+    pub slotframe: Slotframe,
+    pub joining: JoiningInformation,
+}
+
+// The record without enums, as C has it: a mark beside the sequence number, which is 0 where the mark says that there is none, and the
+// kind of the source address beside its number.
+#[repr(C)]
+pub struct BeaconForm {
+    pub sequenced: bool,
+    pub sequence: u8,
+    pub pan: u16,
+    pub extended: bool,
+    pub source: u64,
     pub synchronization: Synchronization,
     pub timeslot: TimeslotTemplate,
     pub hopping: u8,
