@@ -15,8 +15,8 @@ use Rattle.octets_spec.proofs.CountedLaws.{filled, filled-more, filled-all, len
 use Rattle.eb_record_spec.specs.Record.{blankLink}
 use Rattle.eb_record_spec.specs.declared.Link.{Link}
 use Rattle.eb_record_spec.specs.declared.JoiningInformation.{JoiningInformation}
-use Rattle.eb_decode_spec.specs.Decode.{timingAt, templateAt, linkAt, slotframeAt, networkOffset, joiningAt}
-use Rattle.eb_decode_spec.proofs.DecodeLaws.{timing-two, network-from, joining-is}
+use Rattle.eb_read_spec.specs.Decode.{timingAt, templateAt, linkAt, slotframeAt, networkOffset, joiningAt}
+use Rattle.eb_read_spec.proofs.DecodeLaws.{timing-two, network-from, joining-is}
 use Rattle.eb_read_spec.specs.Inside.{TimeslotLength, JoiningInside}
 use Rattle.eb_decode.proofs.NumbersLaws.{joining-there}
 use Rattle.layout.specs.Layout.{linkNumbers}

@@ -7,7 +7,7 @@ use lib.ListN.{length, getD, replicate}
 use Rattle.octets_spec.specs.Counted.{padded}
 use Rattle.eb_record_spec.specs.Record.{blankLink, blankBeacon}
 use Rattle.eb_record_spec.specs.declared.Beacon.{Beacon}
-use Rattle.eb_decode_spec.specs.Decode.{templateAt, linkAt, slotframeAt, joiningAt, decoded}
+use Rattle.eb_read_spec.specs.Decode.{templateAt, linkAt, slotframeAt, joiningAt, decoded}
 use Rattle.eb_read_spec.specs.Read.{examined, readFrame}
 use Rattle.eb_read_spec.specs.Inside.{TimeslotLength, JoiningInside, ElementsInside, AcceptedLiesInside}
 use Rattle.eb_read_spec.specs.declared.Examination.{Examination}

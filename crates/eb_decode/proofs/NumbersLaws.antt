@@ -17,8 +17,8 @@ use Rattle.mac_header_spec.specs.declared.FieldOffsets.{FieldOffsets}
 use Rattle.eb_record_spec.specs.declared.TimeslotTemplate.{TimeslotTemplate}
 use Rattle.eb_record_spec.specs.declared.JoiningInformation.{JoiningInformation}
 use Rattle.ie_walk_spec.specs.declared.Walk.{Walk}
-use Rattle.eb_decode_spec.proofs.DecodeLaws.{network-from, joining-is}
-use Rattle.eb_decode_spec.specs.Decode.{sequenceOf, sourceOf, macHeaderOf, synchronizationAt, templateAt, slotframeAt, networkOffset, joiningAt, decoded}
+use Rattle.eb_read_spec.proofs.DecodeLaws.{network-from, joining-is}
+use Rattle.eb_read_spec.specs.Decode.{sequenceOf, sourceOf, macHeaderOf, synchronizationAt, templateAt, slotframeAt, networkOffset, joiningAt, decoded}
 use Rattle.eb_read_spec.specs.Inside.{TimeslotLength, JoiningInside, ElementsInside}
 use Rattle.layout.specs.Layout.{sequencePresent, sequenceNumber, sourceKind, sourceAddress, bit, macHeaderNumbers, elementNumbers, joiningNumbers, numbersOf}
 

@@ -6,7 +6,7 @@ ghost use Rattle.octets_spec.specs.Choice.{ifEq};
 ghost use Rattle.octets_spec.specs.Number.{leAt};
 ghost use Rattle.octets_spec.specs.Counted.{counted, padded};
 ghost use Rattle.eb_record_spec.specs.Record.{blankLink};
-ghost use Rattle.eb_decode_spec.specs.Decode.{timingAt, templateAt, linkAt, slotframeAt, joiningAt};
+ghost use Rattle.eb_read_spec.specs.Decode.{timingAt, templateAt, linkAt, slotframeAt, joiningAt};
 ghost use Rattle.eb_read_spec.specs.Inside.{TimeslotLength, JoiningInside};
 ghost use Rattle.layout.specs.Layout.{linkNumbers};
 use crate::fixed;

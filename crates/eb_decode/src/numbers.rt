@@ -5,7 +5,7 @@ ghost use Prim.Native.Nat.{_+_, _*_, _-_, _%_, _≤_, _<_};
 ghost use lib.ListN.{length, getD};
 ghost use Rattle.octets_spec.specs.Choice.{ifEq};
 ghost use Rattle.octets_spec.specs.Number.{leAt, beAt};
-ghost use Rattle.eb_decode_spec.specs.Decode.{macHeaderOf, synchronizationAt, templateAt, slotframeAt, joiningAt, decoded};
+ghost use Rattle.eb_read_spec.specs.Decode.{macHeaderOf, synchronizationAt, templateAt, slotframeAt, joiningAt, decoded};
 ghost use Rattle.eb_read_spec.specs.Inside.{JoiningInside, ElementsInside};
 ghost use Rattle.layout.specs.Layout.{macHeaderNumbers, elementNumbers, joiningNumbers, numbersOf};
 use crate::fixed;

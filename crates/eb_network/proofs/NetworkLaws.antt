@@ -7,7 +7,7 @@ use lib.ListN.{length, take, drop, drop-of-length-le}
 use lib.Seq.{take-nil}
 use Rattle.octets_spec.specs.Choice.{ifLt, ifEq}
 use Rattle.octets_spec.proofs.ChoiceLaws.{if-eq, if-ne, either-lt, either-eq, choices}
-use Rattle.eb_decode_spec.specs.Decode.{networkOffset}
+use Rattle.eb_read_spec.specs.Decode.{networkOffset}
 use Rattle.eb_read_spec.specs.Read.{examined}
 use Rattle.eb_read_spec.specs.declared.Examination.{Examination}
 use Rattle.eb_network.specs.Network.{partOf, networkPart, networkStart}

@@ -4,7 +4,7 @@ use mathlib.Core.List.{List, []}
 use lib.ListN.{length, take, drop}
 use Rattle.octets_spec.specs.Choice.{ifLt, ifEq}
 use Rattle.refusal.specs.Refusal.{done}
-use Rattle.eb_decode_spec.specs.Decode.{networkOffset}
+use Rattle.eb_read_spec.specs.Decode.{networkOffset}
 use Rattle.eb_read_spec.specs.Read.{examined}
 
 -- the bytes from `skip` offsets behind an offset to another offset, if they are all there

@@ -1,6 +1,6 @@
 // Reading a beacon: its number and its record.
 ghost use mathlib.Core.Path.{_≡_};
-ghost use Rattle.eb_decode_spec.specs.Decode.{decoded};
+ghost use Rattle.eb_read_spec.specs.Decode.{decoded};
 ghost use Rattle.eb_read_spec.specs.Read.{readFrame};
 ghost use Rattle.eb_read_spec.specs.Claims.{NumbersTo8, OneIsTheLength, AcceptedMayBeDecidedOn};
 pub use eb_read_spec::ReadAnswer;

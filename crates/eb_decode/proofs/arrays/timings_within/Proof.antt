@@ -2,7 +2,7 @@
 use Prim.Native.Nat.{_+_, _-_, _≤_}
 use mathlib.Core.Path.{_≡_}
 use Rattle.octets_spec.proofs.CountedLaws.{filled}
-use Rattle.eb_decode_spec.specs.Decode.{timingAt}
+use Rattle.eb_read_spec.specs.Decode.{timingAt}
 use Rattle.eb_decode.proofs.FixedLaws.{fixing}
 use Rattle.eb_decode.proofs.ArrayLaws.{arrays}
 use borrow.Author.Needs.{needs}

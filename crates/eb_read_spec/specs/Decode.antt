@@ -10,7 +10,7 @@ use Rattle.octets_spec.specs.Number.{leAt, beAt}
 use Rattle.octets_spec.specs.Counted.{counted, padded}
 use Rattle.mac_header_spec.specs.Control.{controlOf, offsetsOf}
 use Rattle.ie_walk_spec.specs.declared.Walk.{Walk}
-use Rattle.eb_decode_spec.specs.declared.MacHeader.{MacHeader}
+use Rattle.eb_read_spec.specs.declared.MacHeader.{MacHeader}
 use Rattle.eb_record_spec.specs.Record.{blankLink, blankJoining}
 use Rattle.eb_record_spec.specs.declared.SequenceNumber.{SequenceNumber}
 use Rattle.eb_record_spec.specs.declared.SequenceNumber.the-variants.{Absent, Number}

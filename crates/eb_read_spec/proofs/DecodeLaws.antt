@@ -30,8 +30,8 @@ use Rattle.eb_record_spec.specs.declared.Beacon.{Beacon}
 use Rattle.eb_record_spec.specs.declared.SequenceNumber.the-variants.{Absent, Number}
 use Rattle.eb_record_spec.specs.declared.Address.the-variants.{Short, Extended}
 use Rattle.eb_record_spec.specs.declared.Link.{Link}
-use Rattle.eb_decode_spec.specs.Decode.{sequenceOf, sourceOf, synchronizationAt, timingAt, templateAt, linkAt, slotframeAt, networkOffset, joiningAt, macHeaderOf, decoded}
-use Rattle.eb_decode_spec.specs.declared.MacHeader.{MacHeader}
+use Rattle.eb_read_spec.specs.Decode.{sequenceOf, sourceOf, synchronizationAt, timingAt, templateAt, linkAt, slotframeAt, networkOffset, joiningAt, macHeaderOf, decoded}
+use Rattle.eb_read_spec.specs.declared.MacHeader.{MacHeader}
 
 -- ---- past the end
 module _ (s : List ℕ) (at k : ℕ) (past : length s ≤ at) where
