@@ -147,4 +147,11 @@ module _ (s : List ℕ) (at to : ℕ) where
     unfolding joiningInside
     joining-there size byte r h e f g = if-ne _ _ _ _ some (if-ge _ _ _ _ h (rw (e, f) at g))
 
-pub ruleset inside = (choices, starts-behind, ends-behind, ends-inside, slotframe-behind, links-many, links-few, timeslot-behind, timeslot-there, joining-nowhere, joining-behind, joining-there)
+-- all of them
+pub all-inside : (s : List ℕ) (walk : Walk) (synchronization timeslot hopping slotframe joining : Bool) → synchronization ≡ bytesInside s (walk .synchronization) 6 → timeslot ≡ timeslotInside s (walk .timeslot) (walk .timeslotend)
+    → hopping ≡ bytesInside s (walk .hopping) 1 → slotframe ≡ slotframeInside s (walk .slotframe) → joining ≡ joiningInside s (walk .joining) (walk .joiningend)
+    → synchronization && (timeslot && (hopping && (slotframe && joining))) ≡ liesInside s walk
+unfolding liesInside
+all-inside s walk synchronization timeslot hopping slotframe joining e f g h k = rw (e, f, g, h, k)
+
+pub ruleset inside = (choices, starts-behind, ends-behind, ends-inside, slotframe-behind, links-many, links-few, timeslot-behind, timeslot-there, joining-nowhere, joining-behind, joining-there, all-inside)
