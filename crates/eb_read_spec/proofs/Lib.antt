@@ -8,5 +8,6 @@ pub mod Within
 pub mod Noted
 pub mod Bounds
 pub mod Accepted
+pub mod FormReadLaws
 pub mod NetworkLaws
 pub mod Witnessed
