@@ -25,7 +25,8 @@ use Rattle.eb_read_spec.specs.Claims.{Bytes}
 use Rattle.eb_read_spec.proofs.Noted.{SlotframePassed, TimeslotPassed, Noted, examined-noted}
 use Rattle.eb_read_spec.proofs.Bounds.{le-below, be-below, fit-below}
 use Rattle.eb_read_spec.proofs.Accepted.{Required, accepted-required, accepted-decoded}
-use Rattle.eb_frame_spec.specs.Limits.{allOf, allBelow, sequenceFits, sourceFits, synchronizationFits, templateFits, linkFits, linkUnused, slotframeFits, addressFits, presentFits, absentFits, joiningFits, fits}
+use Rattle.eb_frame_spec.specs.Limits.{allOf, allBelow, sequenceFits, synchronizationFits, templateFits, linkFits, linkUnused, slotframeFits, addressFits, presentFits, absentFits, joiningFits, fits}
+use Rattle.eb_record_spec.specs.Form.{sourceFits}
 use Rattle.eb_accepted_spec.specs.Accepted.{AcceptedFits}
 use Rattle.eb_accepted_spec.proofs.ListLaws.{also, all-blank, all-counted, all-used, all-unused}
 

@@ -8,14 +8,13 @@ use lib.ListN.{take, drop}
 use Rattle.octets_spec.specs.Choice.{ifOn}
 use Rattle.eb_record_spec.specs.declared.SequenceNumber.{SequenceNumber}
 use Rattle.eb_record_spec.specs.declared.SequenceNumber.the-variants.{Absent, Number}
-use Rattle.eb_record_spec.specs.declared.Address.{Address}
-use Rattle.eb_record_spec.specs.declared.Address.the-variants.{Short, Extended}
 use Rattle.eb_record_spec.specs.declared.Synchronization.{Synchronization}
 use Rattle.eb_record_spec.specs.declared.TimeslotTemplate.{TimeslotTemplate}
 use Rattle.eb_record_spec.specs.declared.Link.{Link}
 use Rattle.eb_record_spec.specs.declared.Slotframe.{Slotframe}
 use Rattle.eb_record_spec.specs.declared.JoiningInformation.{JoiningInformation}
 use Rattle.eb_record_spec.specs.declared.Beacon.{Beacon}
+use Rattle.eb_record_spec.specs.Form.{sourceFits}
 
 -- a test holds of every entry of a list
 unfoldable pub allOf : {A : Type 0} → (A → Bool) → List A → Bool
@@ -31,11 +30,6 @@ unfoldable pub sequenceFits : SequenceNumber → Bool
 sequenceFits Absent = true
 sequenceFits (Number n) = ltb n 256
 
--- a short source has 2 bytes, an extended one 8
-unfoldable pub sourceFits : Address → Bool
-sourceFits (Short n) = ltb n (2 ^ 16)
-sourceFits (Extended n) = ltb n (2 ^ 64)
-
 -- the ASN has 5 bytes
 unfoldable pub synchronizationFits : Synchronization → Bool
 synchronizationFits y = ltb (y .asn) (2 ^ 40) && ltb (y .metric) 256
@@ -48,7 +42,7 @@ templateFits t =
     (allBelow (2 ^ 16) (take 10 (t .timings)) && allBelow (2 ^ 24) (drop 10 (t .timings)))
     (eqb (t .id) 0 && allBelow 1 (t .timings))
 
--- a link's timeslot is below the size
+-- a link's timeslot is below the size, and its options have one byte
 unfoldable pub linkFits : ℕ → Link → Bool
 linkFits size l = ltb (l .timeslot) size && (ltb (l .«channel_offset») (2 ^ 16) && ltb (l .options) 256)
 

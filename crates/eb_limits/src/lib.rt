@@ -2,7 +2,8 @@
 ghost use mathlib.Core.Path.{_≡_};
 ghost use Prim.Native.Nat.{_≤_};
 ghost use lib.Dec.{ltb};
-ghost use Rattle.eb_frame_spec.specs.Limits.{sequenceFits, sourceFits, synchronizationFits, templateFits, fits};
+ghost use Rattle.eb_frame_spec.specs.Limits.{sequenceFits, synchronizationFits, templateFits, fits};
+ghost use Rattle.eb_record_spec.specs.Form.{sourceFits};
 ghost use Rattle.eb_frame_spec.specs.Range.{allFrom, below};
 use eb_record_spec::Address;
 use eb_record_spec::Beacon;

@@ -6,11 +6,11 @@ ghost use Rattle.eb_frame_spec.specs.Range.{allFrom};
 use eb_record_spec::Link;
 use eb_record_spec::Slotframe;
 
-// The channel offset and the options fit by their types.
+// The channel offset fits by its type.
 fn link_fits(link: Link, size: u16) -> bool
     ensures { λ r. ⌜ r ≡ linkFits size link ⌝ }
 {
-    link.timeslot < size
+    (link.timeslot < size) & (link.options < 256)
 }
 
 fn link_unused(link: Link) -> bool

@@ -24,7 +24,8 @@ use Rattle.eb_decode_spec.proofs.DecodeLaws.{some-sequence, no-sequence, extend
 use Rattle.eb_read_spec.specs.Read.{elementsOffset}
 use Rattle.eb_read_spec.proofs.ReadLaws.{offsets-at}
 use Rattle.eb_frame_spec.specs.Frame.{suppressedBit, sequenceBytes, sourceMode, sourceBytes, controlWord, macHeaderBytes, beaconMacHeader}
-use Rattle.eb_frame_spec.specs.Limits.{sequenceFits, sourceFits}
+use Rattle.eb_frame_spec.specs.Limits.{sequenceFits}
+use Rattle.eb_record_spec.specs.Form.{sourceFits}
 use Rattle.eb_frame_spec.proofs.LengthLaws.{length-mac-header}
 use Rattle.eb_read_back_spec.proofs.Stands.{Stands, stands-at, stands-bound, stands-first, stands-rest, le-here, le-last, byte-is}
 use Rattle.eb_read_back_spec.proofs.Fitting.{Within}

@@ -11,7 +11,8 @@ use Rattle.eb_record_spec.specs.declared.SequenceNumber.the-variants.{Absent, N
 use Rattle.eb_record_spec.specs.declared.Address.the-variants.{Short, Extended}
 use Rattle.eb_record_spec.specs.declared.Beacon.{Beacon}
 use Rattle.eb_frame_spec.specs.Frame.{suppressedBit, sequenceBytes, sourceMode, sourceBytes, controlWord, macHeaderBytes, headerDescriptor, groupDescriptor, shortDescriptor, longDescriptor, numbersIn, synchronizationBytes, lastWidth, timingsBytes, templateSize, templateBytes, hoppingBytes, linkBytes, linksBytes, slotframeBytes, groupSize, groupBytes, joiningWord, joiningSize, joiningBytes, frameOf, frameLength}
-use Rattle.eb_frame_spec.specs.Limits.{allOf, allBelow, sequenceFits, sourceFits, synchronizationFits, templateFits, linkFits, linkUnused, slotframeFits, addressFits, presentFits, absentFits, joiningFits, fits}
+use Rattle.eb_frame_spec.specs.Limits.{allOf, allBelow, sequenceFits, synchronizationFits, templateFits, linkFits, linkUnused, slotframeFits, addressFits, presentFits, absentFits, joiningFits, fits}
+use Rattle.eb_record_spec.specs.Form.{sourceFits}
 use Rattle.eb_read_back_spec.specs.ReadBack.{Writable, LengthsAreMet, FullRecordIsWritable}
 
 -- one link, nothing that may be left out

@@ -55,7 +55,7 @@ fn slot(links: [Link; 16], count: usize, size: u16, id: u8, asn: u64, waits: boo
     )));
 }
 
-fn link(timeslot: u16, channel_offset: u16, options: u8) -> Link {
+fn link(timeslot: u16, channel_offset: u16, options: u16) -> Link {
     Link {
         timeslot,
         channel_offset,
