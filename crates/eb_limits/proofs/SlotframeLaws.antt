@@ -7,9 +7,9 @@ use lib.Dec.{ltb, eqb}
 use lib.ListN.{length}
 use Rattle.eb_record_spec.specs.declared.Link.{Link}
 use Rattle.eb_record_spec.specs.declared.Slotframe.{Slotframe}
-use Rattle.eb_frame_spec.specs.Limits.{linkFits, linkUnused, slotframeFits}
-use Rattle.eb_frame_spec.specs.Range.{allFrom}
-use Rattle.eb_frame_spec.proofs.RangeLaws.{stretches, all-used, all-unused}
+use Rattle.eb_write_spec.specs.Limits.{linkFits, linkUnused, slotframeFits}
+use Rattle.eb_write_spec.specs.Range.{allFrom}
+use Rattle.eb_write_spec.proofs.RangeLaws.{stretches, all-used, all-unused}
 
 pub link-is : (l : Link) (size : ℕ) → l .«channel_offset» < 65536 → ltb (l .timeslot) size && ltb (l .options) 256 ≡ linkFits size l
 unfolding linkFits
