@@ -8,8 +8,8 @@ use nbr_table_spec::Table;
 use slot_spec::SlotAnswer;
 
 // Writes a number and the byte behind it.
-fn put(n: u64, end: u8) {
-    io::print_decimal(1, n);
+fn put(number: u64, end: u8) {
+    io::print_decimal(1, number);
     io::write_all(1, &[end]);
 }
 
@@ -55,7 +55,7 @@ fn slot(links: [Link; 16], count: usize, size: u16, id: u8, asn: u64, waits: boo
     )));
 }
 
-fn link(timeslot: u16, channel_offset: u16, options: u8) -> Link {
+fn link(timeslot: u16, channel_offset: u16, options: u16) -> Link {
     Link {
         timeslot,
         channel_offset,
@@ -150,8 +150,8 @@ fn hops() {
     hop(fifth);
 }
 
-fn wide(n: u32) -> u64 {
-    n as u64
+fn wide(value: u32) -> u64 {
+    value as u64
 }
 
 // The length of a frame, its number and some of its record.

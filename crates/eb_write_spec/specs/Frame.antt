@@ -1,0 +1,198 @@
+-- The frame of a record: its bytes in the order on air (docs/RULES.md, Writing). Assumes nothing.
+use Prim.Native.Nat.{ℕ, _+_, _*_, _^_}
+use mathlib.Core.Bool.{Bool}
+use mathlib.Core.List.{List, [], _∷_, _++_}
+use lib.ListN.{take, drop, length}
+use Rattle.octets_spec.specs.Choice.{ifOn, ifLt}
+use Rattle.octets_spec.specs.Number.{leBytes, beBytes}
+use Rattle.eb_record_spec.specs.declared.SequenceNumber.{SequenceNumber}
+use Rattle.eb_record_spec.specs.declared.SequenceNumber.the-variants.{Absent, Number}
+use Rattle.eb_record_spec.specs.declared.Address.{Address}
+use Rattle.eb_record_spec.specs.declared.Address.the-variants.{Short, Extended}
+use Rattle.eb_record_spec.specs.declared.Synchronization.{Synchronization}
+use Rattle.eb_record_spec.specs.declared.TimeslotTemplate.{TimeslotTemplate}
+use Rattle.eb_record_spec.specs.declared.Link.{Link}
+use Rattle.eb_record_spec.specs.declared.Slotframe.{Slotframe}
+use Rattle.eb_record_spec.specs.declared.JoiningInformation.{JoiningInformation}
+use Rattle.eb_record_spec.specs.declared.Beacon.{Beacon}
+
+-- ---- the IDs of elements (IEEE 802.15.4-2015, 7.4)
+-- the header element header termination 1, 0x7E: it ends the header list, and payload elements follow
+abbrev pub headerTermination1 : ℕ
+headerTermination1 = 126
+
+-- the payload group MLME, 0x1
+abbrev pub mlmeGroup : ℕ
+mlmeGroup = 1
+
+-- the payload group IETF, 0x5 (RFC 8137)
+abbrev pub ietfGroup : ℕ
+ietfGroup = 5
+
+-- in it, the subtype of joining information, 0x2 (RFC 9032)
+abbrev pub joiningSubtype : ℕ
+joiningSubtype = 2
+
+-- the short sub-element synchronization, 0x1A
+abbrev pub synchronizationId : ℕ
+synchronizationId = 26
+
+-- the short sub-element slotframe and link, 0x1B
+abbrev pub slotframeId : ℕ
+slotframeId = 27
+
+-- the short sub-element timeslot, 0x1C
+abbrev pub timeslotId : ℕ
+timeslotId = 28
+
+-- the long sub-element channel hopping, 0x9
+abbrev pub hoppingId : ℕ
+hoppingId = 9
+
+-- the short address that all nodes receive, 0xFFFF
+abbrev pub broadcast : ℕ
+broadcast = 65535
+
+-- ---- frame control and the fixed fields
+-- the bit of frame control that says that the sequence number is suppressed
+unfoldable pub suppressedBit : SequenceNumber → ℕ
+suppressedBit Absent = 1
+suppressedBit (Number n) = 0
+
+-- the byte of the sequence number, if it is there
+unfoldable pub sequenceBytes : SequenceNumber → List ℕ
+sequenceBytes Absent = []
+sequenceBytes (Number n) = leBytes 1 n
+
+-- the source's addressing mode: 2 short, 3 extended
+unfoldable pub sourceMode : Address → ℕ
+sourceMode (Short n) = 2
+sourceMode (Extended n) = 3
+
+-- the source's bytes
+unfoldable pub sourceBytes : Address → List ℕ
+sourceBytes (Short n) = leBytes 2 n
+sourceBytes (Extended n) = leBytes 8 n
+
+-- frame control: type 0, PAN ID compression, elements present, destination short, version 2; all that is ignored on reading is 0
+unfoldable pub controlWord : SequenceNumber → Address → ℕ
+controlWord sequence source = 2 ^ 6 + suppressedBit sequence * 2 ^ 8 + 2 ^ 9 + 2 * 2 ^ 10 + 2 * 2 ^ 12 + sourceMode source * 2 ^ 14
+
+-- frame control and the fixed fields: sequence number, destination PAN, destination FF FF, source
+unfoldable pub macHeaderBytes : SequenceNumber → ℕ → Address → List ℕ
+macHeaderBytes sequence pan source = leBytes 2 (controlWord sequence source) ++ (sequenceBytes sequence ++ (leBytes 2 pan ++ (leBytes 2 broadcast ++ sourceBytes source)))
+
+-- those of a record
+abbrev pub beaconMacHeader : Beacon → List ℕ
+beaconMacHeader b = macHeaderBytes (b .sequence) (b .pan) (b .source)
+
+-- ---- descriptors
+-- the descriptor of a header element: bits 0-6 length, 7-14 ID
+unfoldable pub headerDescriptor : ℕ → ℕ → List ℕ
+headerDescriptor id size = leBytes 2 (size + id * 2 ^ 7)
+
+-- the descriptor of a group: bits 0-10 length, 11-14 group, 15 one
+unfoldable pub groupDescriptor : ℕ → ℕ → List ℕ
+groupDescriptor group size = leBytes 2 (size + group * 2 ^ 11 + 2 ^ 15)
+
+-- the descriptor of a short sub-element: bits 0-7 length, 8-14 ID
+unfoldable pub shortDescriptor : ℕ → ℕ → List ℕ
+shortDescriptor id size = leBytes 2 (size + id * 2 ^ 8)
+
+-- the descriptor of a long sub-element: bits 0-10 length, 11-14 ID, 15 one
+unfoldable pub longDescriptor : ℕ → ℕ → List ℕ
+longDescriptor id size = leBytes 2 (size + id * 2 ^ 11 + 2 ^ 15)
+
+-- ---- elements
+-- the numbers of a list one after the other, each in so many bytes
+unfoldable pub numbersIn : ℕ → List ℕ → List ℕ
+numbersIn width [] = []
+numbersIn width (n ∷ ns) = leBytes width n ++ numbersIn width ns
+
+-- synchronization: ASN (5 bytes), join metric
+unfoldable pub synchronizationBytes : Synchronization → List ℕ
+synchronizationBytes y = shortDescriptor synchronizationId 6 ++ (leBytes 5 (y .asn) ++ leBytes 1 (y .metric))
+
+-- the bytes of each of the last two timings: 2 if both fit, else 3
+unfoldable pub lastWidth : List ℕ → ℕ
+lastWidth [] = 2
+lastWidth (n ∷ ns) = ifLt n 65536 (lastWidth ns) 3
+
+-- the timings: ten of 2 bytes and two of 2 or 3
+unfoldable pub timingsBytes : List ℕ → List ℕ
+timingsBytes timings = numbersIn 2 (take 10 timings) ++ numbersIn (lastWidth (drop 10 timings)) (drop 10 timings)
+
+-- the size of the timeslot element behind its descriptor: 1, 25 or 27
+unfoldable pub templateSize : TimeslotTemplate → ℕ
+templateSize t = ifOn (t .timed) (21 + 2 * lastWidth (drop 10 (t .timings))) 1
+
+-- timeslot: template ID, then nothing or the timings
+unfoldable pub templateBytes : TimeslotTemplate → List ℕ
+templateBytes t = shortDescriptor timeslotId (templateSize t) ++ (leBytes 1 (t .id) ++ ifOn (t .timed) (timingsBytes (t .timings)) [])
+
+-- hopping: the sequence ID
+unfoldable pub hoppingBytes : ℕ → List ℕ
+hoppingBytes id = longDescriptor hoppingId 1 ++ leBytes 1 id
+
+-- a link: timeslot, channel offset, options
+unfoldable pub linkBytes : Link → List ℕ
+linkBytes l = leBytes 2 (l .timeslot) ++ (leBytes 2 (l .«channel_offset») ++ leBytes 1 (l .options))
+
+-- links one after the other
+unfoldable pub linksBytes : List Link → List ℕ
+linksBytes [] = []
+linksBytes (l ∷ ls) = linkBytes l ++ linksBytes ls
+
+-- slotframe and link: slotframe count 1, handle, size, number of links, the links
+unfoldable pub slotframeBytes : Slotframe → List ℕ
+slotframeBytes f =
+    shortDescriptor slotframeId (5 + 5 * f .count)
+    ++ (leBytes 1 1 ++ (leBytes 1 (f .handle) ++ (leBytes 2 (f .size) ++ (leBytes 1 (f .count) ++ linksBytes (take (f .count) (f .links))))))
+
+-- the size of the MLME group behind its descriptor, with a timeslot element and so many links
+unfoldable pub groupSize : TimeslotTemplate → ℕ → ℕ
+groupSize timeslot count = 8 + (2 + templateSize timeslot) + 3 + (7 + 5 * count)
+
+-- the MLME group: synchronization, timeslot, hopping, slotframe
+unfoldable pub groupBytes : Synchronization → TimeslotTemplate → ℕ → Slotframe → List ℕ
+groupBytes synchronization timeslot hopping slotframe =
+    groupDescriptor mlmeGroup (groupSize timeslot (slotframe .count))
+    ++ (synchronizationBytes synchronization ++ (templateBytes timeslot ++ (hoppingBytes hopping ++ slotframeBytes slotframe)))
+
+-- the size of a record's group
+abbrev pub beaconGroupSize : Beacon → ℕ
+beaconGroupSize b = groupSize (b .timeslot) (b .slotframe .count)
+
+-- a record's group
+abbrev pub beaconGroup : Beacon → List ℕ
+beaconGroup b = groupBytes (b .synchronization) (b .timeslot) (b .hopping) (b .slotframe)
+
+-- a truth value as a bit
+abbrev pub flag : Bool → ℕ
+flag b = ifOn b 1 0
+
+-- the flags and priorities of joining information, most significant bit first: R, P, reserved, proxy, rank and PAN priority
+unfoldable pub joiningWord : JoiningInformation → ℕ
+joiningWord j = flag (j .router) * 2 ^ 31 + flag (j .proxied) * 2 ^ 30 + j .proxy * 2 ^ 20 + j .rank * 2 ^ 8 + j .pan
+
+-- its size behind its descriptor: subtype, flags and priorities, the address if P, the network ID
+unfoldable pub joiningSize : JoiningInformation → ℕ
+joiningSize j = 5 + 8 * flag (j .proxied) + j .length
+
+-- joining information, if it is there: an IETF group with subtype 2; the address if P; the network ID
+unfoldable pub joiningBytes : JoiningInformation → List ℕ
+joiningBytes j =
+    ifOn (j .present)
+    (groupDescriptor ietfGroup (joiningSize j) ++ (leBytes 1 joiningSubtype ++ (beBytes 4 (joiningWord j) ++ (ifOn (j .proxied) (beBytes 8 (j .address)) [] ++ take (j .length) (j .network)))))
+    []
+
+-- ---- the frame
+-- the frame: the header list is header termination 1 alone, and no payload terminator follows the elements
+unfoldable pub frameOf : Beacon → List ℕ
+frameOf b = beaconMacHeader b ++ (headerDescriptor headerTermination1 0 ++ (beaconGroup b ++ joiningBytes (b .joining)))
+
+-- its length as a formula of the record
+unfoldable pub frameLength : Beacon → ℕ
+frameLength b =
+    8 + length (sequenceBytes (b .sequence)) + length (sourceBytes (b .source))
+    + (2 + beaconGroupSize b) + ifOn (b .joining .present) (2 + joiningSize (b .joining)) 0
