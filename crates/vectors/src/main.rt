@@ -27,7 +27,7 @@ fn channels() {
 }
 
 // What a decision is asked for.
-fn asked(count: usize, size: u16, id: u8, asn: u64, waits: bool) {
+fn asked(count: usize, size: u32, id: u32, asn: u64, waits: bool) {
     put(count as u64, b' ');
     put(size as u64, b' ');
     put(id as u64, b' ');
@@ -38,12 +38,12 @@ fn asked(count: usize, size: u16, id: u8, asn: u64, waits: bool) {
 fn answered(answer: SlotAnswer) {
     put(answer.number as u64, b' ');
     put(answer.action as u64, b' ');
-    put(answer.place as u64, b' ');
+    put(answer.index as u64, b' ');
     put(answer.channel as u64, b'\n');
 }
 
 // The decision on the first `count` links.
-fn slot(links: [Link; 16], count: usize, size: u16, id: u8, asn: u64, waits: bool) {
+fn slot(links: [Link; 16], count: usize, size: u32, id: u32, asn: u64, waits: bool) {
     asked(count, size, id, asn, waits);
     answered(slot_decision::slots::answer(slot_decision::decide_listed(
         links,
@@ -55,7 +55,7 @@ fn slot(links: [Link; 16], count: usize, size: u16, id: u8, asn: u64, waits: boo
     )));
 }
 
-fn link(timeslot: u16, channel_offset: u16, options: u8) -> Link {
+fn link(timeslot: u16, channel_offset: u16, options: u16) -> Link {
     Link {
         timeslot,
         channel_offset,
@@ -64,7 +64,7 @@ fn link(timeslot: u16, channel_offset: u16, options: u8) -> Link {
 }
 
 // The schedule of RFC 8180: a shared cell in slot 0 of a slotframe, to transmit and receive.
-fn minimal(count: usize, size: u16, id: u8, asn: u64, waits: bool) {
+fn minimal(count: usize, size: u32, id: u32, asn: u64, waits: bool) {
     slot([link(0, 0, 15); 16], count, size, id, asn, waits);
 }
 
@@ -77,14 +77,14 @@ fn mixed_links() -> [Link; 16] {
     links
 }
 
-fn mixed(count: usize, size: u16, asn: u64, waits: bool) {
+fn mixed(count: usize, size: u32, asn: u64, waits: bool) {
     slot(mixed_links(), count, size, 0, asn, waits);
 }
 
 fn slots() {
     io::write_all(
         1,
-        b"links, size, sequence, asn, waiting: number, action (0 sleep, 1 transmit, 2 listen), place, channel\n",
+        b"links, size, sequence, asn, waiting: number, action (0 sleep, 1 transmit, 2 listen), index, channel\n",
     );
     minimal(1, 11, 0, 256, true);
     minimal(1, 11, 0, 264, true);

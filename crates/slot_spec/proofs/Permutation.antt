@@ -5,7 +5,7 @@ use mathlib.Core.Bool.{Bool, true, false, cond}
 use mathlib.Core.List as Lists
 use mathlib.Core.List.{List, [], _∷_}
 use lib.Dec.{leb}
-use Rattle.hopping.specs.Hopping.{hopping, HoppingPermutes}
+use Rattle.slot_spec.specs.Hopping.{hopping, HoppingPermutes}
 
 abbrev insert : ℕ → List ℕ → List ℕ
 insert x [] = x ∷ []
