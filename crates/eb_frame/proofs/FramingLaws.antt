@@ -7,10 +7,10 @@ use lib.ListN.{length}
 use Rattle.octets_spec.specs.Number.{leBytes, stored}
 use Rattle.octets_spec.proofs.PutLaws.{stored-out}
 use Rattle.eb_record_spec.specs.declared.Beacon.{Beacon}
-use Rattle.eb_frame_spec.specs.Frame.{sequenceBytes, sourceBytes, headerDescriptor, groupSize, joiningBytes, beaconMacHeader, beaconGroup, frameOf}
-use Rattle.eb_frame_spec.proofs.LengthLaws.{length-le, length-mac-header, length-group-used}
-use Rattle.eb_frame_spec.proofs.RangeLaws.{length-mapped}
-use Rattle.eb_frame_spec.proofs.RowLaws.{two, three}
+use Rattle.eb_write_spec.specs.Frame.{sequenceBytes, sourceBytes, headerDescriptor, groupSize, joiningBytes, beaconMacHeader, beaconGroup, frameOf}
+use Rattle.eb_write_spec.proofs.LengthLaws.{length-le, length-mac-header, length-group-used}
+use Rattle.eb_write_spec.proofs.RangeLaws.{length-mapped}
+use Rattle.eb_write_spec.proofs.RowLaws.{two, three}
 
 pub before-is : (b : Beacon) (used size : ℕ) → length (b .timeslot .timings) ≡ 12 → length (b .slotframe .links) ≡ 16 → used ≡ min (b .slotframe .count) 16 → size ≡ groupSize (b .timeslot) used → 4 + size ≡ 2 + length (beaconGroup b)
 before-is b used size twelve sixteen few is =

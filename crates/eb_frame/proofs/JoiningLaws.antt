@@ -11,10 +11,10 @@ use Rattle.octets_spec.specs.Number.{leBytes, beBytes, stored}
 use Rattle.octets_spec.proofs.PutLaws.{stored-out}
 use Rattle.octets_spec.proofs.ChoiceLaws.{choices, if-on, if-off}
 use Rattle.eb_record_spec.specs.declared.JoiningInformation.{JoiningInformation}
-use Rattle.eb_frame_spec.specs.Frame.{groupDescriptor, flag, joiningWord, joiningSize, joiningBytes}
-use Rattle.eb_frame_spec.proofs.LengthLaws.{length-le, length-be}
-use Rattle.eb_frame_spec.proofs.RangeLaws.{clip-take}
-use Rattle.eb_frame_spec.proofs.RowLaws.{two, nothing, run-next, run-end, le-joined}
+use Rattle.eb_write_spec.specs.Frame.{groupDescriptor, flag, joiningWord, joiningSize, joiningBytes}
+use Rattle.eb_write_spec.proofs.LengthLaws.{length-le, length-be}
+use Rattle.eb_write_spec.proofs.RangeLaws.{clip-take}
+use Rattle.eb_write_spec.proofs.RowLaws.{two, nothing, run-next, run-end, le-joined}
 
 -- ---- the bytes of a network ID
 abbrev single : ℕ → List ℕ

@@ -9,9 +9,9 @@ use Rattle.eb_record_spec.specs.declared.SequenceNumber.{SequenceNumber}
 use Rattle.eb_record_spec.specs.declared.SequenceNumber.the-variants.{Absent, Number}
 use Rattle.eb_record_spec.specs.declared.Address.{Address}
 use Rattle.eb_record_spec.specs.declared.Address.the-variants.{Short, Extended}
-use Rattle.eb_frame_spec.specs.Frame.{suppressedBit, sequenceBytes, sourceMode, sourceBytes, controlWord, macHeaderBytes}
-use Rattle.eb_frame_spec.proofs.LengthLaws.{length-le}
-use Rattle.eb_frame_spec.proofs.RowLaws.{three, le-joined}
+use Rattle.eb_write_spec.specs.Frame.{suppressedBit, sequenceBytes, sourceMode, sourceBytes, controlWord, macHeaderBytes}
+use Rattle.eb_write_spec.proofs.LengthLaws.{length-le}
+use Rattle.eb_write_spec.proofs.RowLaws.{three, le-joined}
 
 -- ---- the numbers
 pub suppressed : (q : SequenceNumber) → q ≡ Absent → 1 ≡ suppressedBit q

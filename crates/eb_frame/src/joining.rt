@@ -5,7 +5,7 @@ ghost use Prim.Native.Nat.{_*_, _≤_, _<_};
 ghost use lib.ListN.{take};
 ghost use Rattle.octets_spec.specs.Choice.{ifOn};
 ghost use Rattle.octets_spec.specs.Number.{leBytes, beBytes, stored};
-ghost use Rattle.eb_frame_spec.specs.Frame.{groupDescriptor, flag, joiningWord, joiningSize, joiningBytes};
+ghost use Rattle.eb_write_spec.specs.Frame.{groupDescriptor, flag, joiningWord, joiningSize, joiningBytes};
 use eb_record_spec::JoiningInformation;
 
 fn flag_of(b: bool) -> u64
@@ -73,7 +73,7 @@ fn put_joining_rest(buffer: &mut [u8], at: usize, joining: JoiningInformation)
         buffer,
         at + width as usize,
         network,
-        eb_sizes::at_most_16(joining.length),
+        eb_limits::sizes::at_most_16(joining.length),
     );
 }
 
@@ -88,7 +88,7 @@ fn put_joining_start(buffer: &mut [u8], at: usize, joining: JoiningInformation)
         buffer,
         at,
         3,
-        eb_sizes::joining_size(joining) as u64 + 43008 + 2 * 65536,
+        eb_limits::sizes::joining_size(joining) as u64 + 43008 + 2 * 65536,
     );
     octets::put::put_be(buffer, at + 3, 4, joining_word(joining));
 }

@@ -4,7 +4,7 @@ ghost use mathlib.Core.List.{_++_};
 ghost use Prim.Native.Nat.{_+_, _≤_};
 ghost use lib.ListN.{length};
 ghost use Rattle.octets_spec.specs.Number.{stored};
-ghost use Rattle.eb_frame_spec.specs.Frame.{headerDescriptor, joiningBytes, beaconGroup, frameOf};
+ghost use Rattle.eb_write_spec.specs.Frame.{headerDescriptor, joiningBytes, beaconGroup, frameOf};
 use eb_record_spec::Beacon;
 
 pub mod joining;
@@ -14,8 +14,8 @@ pub mod mac_header;
 fn before_joining(b: Beacon) -> usize
     ensures { λ r. ⌜ (r ≡ 2 + length (beaconGroup b)) × (r ≤ 1326) ⌝ }
 {
-    let used = eb_sizes::at_most_16(b.slotframe.count);
-    4 + eb_sizes::group_sizes::group_size(b.timeslot, used as u8)
+    let used = eb_limits::sizes::at_most_16(b.slotframe.count);
+    4 + eb_limits::sizes::group_size(b.timeslot, used as u8)
 }
 
 // The elements: the header list's terminator, the MLME group, joining information.
@@ -44,7 +44,7 @@ pub fn put_frame(buffer: &mut [u8], b: Beacon)
 {
     let sequence = b.sequence;
     let source = b.source;
-    let at = 6 + eb_sizes::sequence_size(sequence) + eb_sizes::source_size(source);
+    let at = 6 + eb_limits::sizes::sequence_size(sequence) + eb_limits::sizes::source_size(source);
     crate::mac_header::put_mac_header(buffer, sequence, b.pan, source);
     put_elements(buffer, at, b);
 }

@@ -3,7 +3,7 @@ ghost use mathlib.Core.Path.{_≡_};
 ghost use Prim.Native.Nat.{_≤_, _<_};
 ghost use lib.ListN.{length};
 ghost use Rattle.octets_spec.specs.Number.{leBytes, stored};
-ghost use Rattle.eb_frame_spec.specs.Frame.{suppressedBit, sequenceBytes, sourceMode, sourceBytes, controlWord, macHeaderBytes};
+ghost use Rattle.eb_write_spec.specs.Frame.{suppressedBit, sequenceBytes, sourceMode, sourceBytes, controlWord, macHeaderBytes};
 use eb_record_spec::Address;
 use eb_record_spec::SequenceNumber;
 
@@ -71,14 +71,14 @@ fn source_number(source: Address) -> u64
 pub fn put_mac_header(buffer: &mut [u8], sequence: SequenceNumber, pan: u16, source: Address)
     ensures { λ _. ⌜ now (buffer .exit) ≡ stored (now (buffer .entry)) 0 (macHeaderBytes sequence pan source) ⌝ }
 {
-    let size = eb_sizes::sequence_size(sequence);
+    let size = eb_limits::sizes::sequence_size(sequence);
     let first = control_word(sequence, source) + sequence_number(sequence) * 65536;
     octets::put::put_le(buffer, 0, 2 + size as u8, first);
     octets::put::put_le(buffer, 2 + size, 4, pan as u64 + 65535 * 65536);
     octets::put::put_le(
         buffer,
         6 + size,
-        eb_sizes::source_size(source) as u8,
+        eb_limits::sizes::source_size(source) as u8,
         source_number(source),
     );
 }

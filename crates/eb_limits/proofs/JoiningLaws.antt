@@ -7,9 +7,9 @@ use lib.Dec.{ltb, eqb}
 use lib.ListN.{length, drop}
 use Rattle.octets_spec.proofs.ChoiceLaws.{if-on, if-off}
 use Rattle.eb_record_spec.specs.declared.JoiningInformation.{JoiningInformation}
-use Rattle.eb_frame_spec.specs.Limits.{allBelow, addressFits, presentFits, absentFits, joiningFits}
-use Rattle.eb_frame_spec.specs.Range.{allFrom, below}
-use Rattle.eb_frame_spec.proofs.RangeLaws.{stretches, all-used, clip-drop}
+use Rattle.eb_write_spec.specs.Limits.{allBelow, addressFits, presentFits, absentFits, joiningFits}
+use Rattle.eb_write_spec.specs.Range.{allFrom, below}
+use Rattle.eb_write_spec.proofs.RangeLaws.{stretches, all-used, clip-drop}
 
 module _ (j : JoiningInformation) where
   pub address-there : j .proxied ≡ true → j .address < 18446744073709551616 → true ≡ addressFits j

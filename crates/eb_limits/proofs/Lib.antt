@@ -1,3 +1,6 @@
+pub mod SizeLaws
+pub mod GroupSizeLaws
+pub mod LengthLaws
 pub mod SlotframeLaws
 pub mod JoiningLaws
 pub mod LimitLaws

@@ -13,9 +13,10 @@ use Rattle.eb_record_spec.specs.declared.Address.the-variants.{Short, Extended}
 use Rattle.eb_record_spec.specs.declared.Synchronization.{Synchronization}
 use Rattle.eb_record_spec.specs.declared.TimeslotTemplate.{TimeslotTemplate}
 use Rattle.eb_record_spec.specs.declared.Beacon.{Beacon}
-use Rattle.eb_frame_spec.specs.Limits.{allBelow, sequenceFits, sourceFits, synchronizationFits, templateFits, slotframeFits, joiningFits, fits}
-use Rattle.eb_frame_spec.specs.Range.{allFrom, below}
-use Rattle.eb_frame_spec.proofs.RangeLaws.{stretches, whole}
+use Rattle.eb_write_spec.specs.Limits.{allBelow, sequenceFits, synchronizationFits, templateFits, slotframeFits, joiningFits, fits}
+use Rattle.eb_record_spec.specs.Form.{sourceFits}
+use Rattle.eb_write_spec.specs.Range.{allFrom, below}
+use Rattle.eb_write_spec.proofs.RangeLaws.{stretches, whole}
 
 -- a number that fits by its type
 pub by-type : (n bound : ℕ) → n < bound → true ≡ ltb n bound

@@ -1,19 +1,19 @@
 -- The laws of a slotframe's limits, in the shape in which the code meets them. Assumes nothing.
 use Prim.Native.Nat.{ℕ, _<_, min}
 use mathlib.Core.Path.{_≡_, refl}
-use mathlib.Core.Bool.{Bool, _&&_, and-true}
+use mathlib.Core.Bool.{Bool, _&&_}
 use borrow.Author.Tests.{lt-ltb}
 use lib.Dec.{ltb, eqb}
 use lib.ListN.{length}
 use Rattle.eb_record_spec.specs.declared.Link.{Link}
 use Rattle.eb_record_spec.specs.declared.Slotframe.{Slotframe}
-use Rattle.eb_frame_spec.specs.Limits.{linkFits, linkUnused, slotframeFits}
-use Rattle.eb_frame_spec.specs.Range.{allFrom}
-use Rattle.eb_frame_spec.proofs.RangeLaws.{stretches, all-used, all-unused}
+use Rattle.eb_write_spec.specs.Limits.{linkFits, linkUnused, slotframeFits}
+use Rattle.eb_write_spec.specs.Range.{allFrom}
+use Rattle.eb_write_spec.proofs.RangeLaws.{stretches, all-used, all-unused}
 
-pub link-is : (l : Link) (size : ℕ) → l .«channel_offset» < 65536 → l .options < 256 → ltb (l .timeslot) size ≡ linkFits size l
+pub link-is : (l : Link) (size : ℕ) → l .«channel_offset» < 65536 → ltb (l .timeslot) size && ltb (l .options) 256 ≡ linkFits size l
 unfolding linkFits
-link-is l size offset options = rw (lt-ltb (l .«channel_offset») 65536 offset, lt-ltb (l .options) 256 options, and-true)
+link-is l size offset = rw (lt-ltb (l .«channel_offset») 65536 offset)
 
 pub link-blank : (l : Link) → eqb (l .timeslot) 0 && (eqb (l .«channel_offset») 0 && eqb (l .options) 0) ≡ linkUnused l
 unfolding linkUnused

@@ -1,10 +1,17 @@
-// The limits of joining information that can be written (eb_frame_spec/specs/Limits.antt).
+// The limits of joining information that can be written (eb_write_spec/specs/Limits.antt).
 ghost use mathlib.Core.Path.{_≡_};
 ghost use Prim.Native.Nat.{_≤_};
 ghost use lib.ListN.{drop};
-ghost use Rattle.eb_frame_spec.specs.Limits.{allBelow, addressFits, presentFits, absentFits, joiningFits};
-ghost use Rattle.eb_frame_spec.specs.Range.{allFrom, below};
+ghost use Rattle.eb_write_spec.specs.Limits.{allBelow, addressFits, presentFits, absentFits, joiningFits};
+ghost use Rattle.eb_write_spec.specs.Range.{allFrom, below};
 use eb_record_spec::JoiningInformation;
+
+// The first numbers that a byte, 7 bits and 12 bits do not hold.
+const OVER_1_BYTE: u16 = 0x100;
+
+const OVER_7_BITS: u8 = 0x80;
+
+const OVER_12_BITS: u16 = 0x1000;
 
 // The address fits by its type; without P it is unused.
 fn address_fits(joining: JoiningInformation) -> bool
@@ -16,7 +23,7 @@ fn address_fits(joining: JoiningInformation) -> bool
     joining.address == 0
 }
 
-// Whether the bytes of a network ID from an offset to another are below a bound.
+// Whether the bytes of a network ID from an index to another are below a bound.
 fn network_below(network: [u8; 16], from: usize, to: usize, bound: u16) -> bool
     requires { ⌜ (from ≤ to) × (to ≤ 16) ⌝ }
     ensures { λ r. ⌜ r ≡ allFrom (below bound) network from to ⌝ }
@@ -30,7 +37,7 @@ fn network_below(network: [u8; 16], from: usize, to: usize, bound: u16) -> bool
     ok
 }
 
-// Whether the bytes of a network ID from an offset on are unused.
+// Whether the bytes of a network ID from an index on are unused.
 fn network_unused(network: [u8; 16], from: usize) -> bool
     requires { ⌜ from ≤ 16 ⌝ }
     ensures { λ r. ⌜ r ≡ allBelow 1 (drop from network) ⌝ }
@@ -42,12 +49,13 @@ fn present_fits(joining: JoiningInformation) -> bool
     ensures { λ r. ⌜ r ≡ presentFits joining ⌝ }
 {
     let network = joining.network;
-    let used = eb_sizes::at_most_16(joining.length);
-    (joining.proxy < 128)
-        & ((joining.rank < 4096)
+    let used = crate::sizes::at_most_16(joining.length);
+    (joining.proxy < OVER_7_BITS)
+        & ((joining.rank < OVER_12_BITS)
             & (address_fits(joining)
                 & ((joining.length < 17)
-                    & (network_below(network, 0, used, 256) & network_unused(network, used)))))
+                    & (network_below(network, 0, used, OVER_1_BYTE)
+                        & network_unused(network, used)))))
 }
 
 fn absent_fits(joining: JoiningInformation) -> bool

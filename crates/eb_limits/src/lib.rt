@@ -1,9 +1,11 @@
-// Whether a record is within the limits of writing (eb_frame_spec/specs/Limits.antt). A number that fits by its type is not tested.
+// Whether a record is within the limits of writing (eb_write_spec/specs/Limits.antt), and how many bytes its frame has (`sizes`). A number
+// that fits by its type is not tested.
 ghost use mathlib.Core.Path.{_≡_};
 ghost use Prim.Native.Nat.{_≤_};
 ghost use lib.Dec.{ltb};
-ghost use Rattle.eb_frame_spec.specs.Limits.{sequenceFits, sourceFits, synchronizationFits, templateFits, fits};
-ghost use Rattle.eb_frame_spec.specs.Range.{allFrom, below};
+ghost use Rattle.eb_write_spec.specs.Limits.{sequenceFits, synchronizationFits, templateFits, fits};
+ghost use Rattle.eb_record_spec.specs.Form.{sourceFits};
+ghost use Rattle.eb_write_spec.specs.Range.{allFrom, below};
 use eb_record_spec::Address;
 use eb_record_spec::Beacon;
 use eb_record_spec::SequenceNumber;
@@ -11,23 +13,31 @@ use eb_record_spec::Synchronization;
 use eb_record_spec::TimeslotTemplate;
 
 pub mod joining_limits;
+pub mod sizes;
 pub mod slotframe_limits;
 
+// The first number that two, three and five bytes do not hold.
+const OVER_2_BYTES: u32 = 0x1_0000;
+
+const OVER_3_BYTES: u32 = 0x100_0000;
+
+const OVER_5_BYTES: u64 = 0x100_0000_0000;
+
 // What a variant holds fits by its type.
-fn in_one_byte(n: u8) -> bool
-    ensures { λ r. ⌜ r ≡ ltb n 256 ⌝ }
+fn in_one_byte(number: u8) -> bool
+    ensures { λ r. ⌜ r ≡ ltb number 256 ⌝ }
 {
-    (n as u16) < 256
+    (number as u16) < 256
 }
 
-fn in_two_bytes(n: u16) -> bool
-    ensures { λ r. ⌜ r ≡ ltb n 65536 ⌝ }
+fn in_two_bytes(number: u16) -> bool
+    ensures { λ r. ⌜ r ≡ ltb number 65536 ⌝ }
 {
-    (n as u32) < 65536
+    (number as u32) < OVER_2_BYTES
 }
 
-fn in_eight_bytes(n: u64) -> bool
-    ensures { λ r. ⌜ r ≡ ltb n 18446744073709551616 ⌝ }
+fn in_eight_bytes(number: u64) -> bool
+    ensures { λ r. ⌜ r ≡ ltb number 18446744073709551616 ⌝ }
 {
     true
 }
@@ -39,8 +49,8 @@ fn sequence_fits(sequence: SequenceNumber) -> bool
         SequenceNumber::Absent => {
             return true;
         }
-        SequenceNumber::Number(n) => {
-            return in_one_byte(n);
+        SequenceNumber::Number(number) => {
+            return in_one_byte(number);
         }
     }
 }
@@ -49,11 +59,11 @@ fn source_fits(source: Address) -> bool
     ensures { λ r. ⌜ r ≡ sourceFits source ⌝ }
 {
     match source {
-        Address::Short(n) => {
-            return in_two_bytes(n);
+        Address::Short(number) => {
+            return in_two_bytes(number);
         }
-        Address::Extended(n) => {
-            return in_eight_bytes(n);
+        Address::Extended(number) => {
+            return in_eight_bytes(number);
         }
     }
 }
@@ -61,10 +71,10 @@ fn source_fits(source: Address) -> bool
 fn synchronization_fits(synchronization: Synchronization) -> bool
     ensures { λ r. ⌜ r ≡ synchronizationFits synchronization ⌝ }
 {
-    synchronization.asn < 1099511627776
+    synchronization.asn < OVER_5_BYTES
 }
 
-// Whether the timings from an offset to another are below a bound.
+// Whether the timings from an index to another are below a bound.
 fn timings_below(timings: [u32; 12], from: usize, to: usize, bound: u32) -> bool
     requires { ⌜ (from ≤ to) × (to ≤ 12) ⌝ }
     ensures { λ r. ⌜ r ≡ allFrom (below bound) timings from to ⌝ }
@@ -83,21 +93,22 @@ fn template_fits(template: TimeslotTemplate) -> bool
 {
     let timings = template.timings;
     if template.timed {
-        return timings_below(timings, 0, 10, 65536) & timings_below(timings, 10, 12, 16777216);
+        return timings_below(timings, 0, 10, OVER_2_BYTES)
+            & timings_below(timings, 10, 12, OVER_3_BYTES);
     }
     (template.id == 0) & timings_below(timings, 0, 12, 1)
 }
 
 // Whether a record is within the limits of writing.
-pub fn within_limits(b: Beacon) -> bool
-    ensures { λ r. ⌜ r ≡ fits b ⌝ }
+pub fn within_limits(beacon: Beacon) -> bool
+    ensures { λ r. ⌜ r ≡ fits beacon ⌝ }
 {
-    let sequence = b.sequence;
-    let source = b.source;
+    let sequence = beacon.sequence;
+    let source = beacon.source;
     sequence_fits(sequence)
         & (source_fits(source)
-            & (synchronization_fits(b.synchronization)
-                & (template_fits(b.timeslot)
-                    & (crate::slotframe_limits::slotframe_fits(b.slotframe)
-                        & crate::joining_limits::joining_fits(b.joining)))))
+            & (synchronization_fits(beacon.synchronization)
+                & (template_fits(beacon.timeslot)
+                    & (crate::slotframe_limits::slotframe_fits(beacon.slotframe)
+                        & crate::joining_limits::joining_fits(beacon.joining)))))
 }

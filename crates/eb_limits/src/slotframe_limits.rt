@@ -1,16 +1,19 @@
-// The limits of a slotframe that can be written (eb_frame_spec/specs/Limits.antt).
+// The limits of a slotframe that can be written (eb_write_spec/specs/Limits.antt).
 ghost use mathlib.Core.Path.{_≡_};
 ghost use Prim.Native.Nat.{_≤_};
-ghost use Rattle.eb_frame_spec.specs.Limits.{linkFits, linkUnused, slotframeFits};
-ghost use Rattle.eb_frame_spec.specs.Range.{allFrom};
+ghost use Rattle.eb_write_spec.specs.Limits.{linkFits, linkUnused, slotframeFits};
+ghost use Rattle.eb_write_spec.specs.Range.{allFrom};
 use eb_record_spec::Link;
 use eb_record_spec::Slotframe;
 
-// The channel offset and the options fit by their types.
+// The first number that one byte does not hold.
+const OVER_1_BYTE: u16 = 0x100;
+
+// The channel offset fits by its type.
 fn link_fits(link: Link, size: u16) -> bool
     ensures { λ r. ⌜ r ≡ linkFits size link ⌝ }
 {
-    link.timeslot < size
+    (link.timeslot < size) & (link.options < OVER_1_BYTE)
 }
 
 fn link_unused(link: Link) -> bool
@@ -19,7 +22,7 @@ fn link_unused(link: Link) -> bool
     (link.timeslot == 0) & ((link.channel_offset == 0) & (link.options == 0))
 }
 
-// Whether the links before an offset fit a size.
+// Whether the links before an index fit a slotframe of this size.
 fn links_fit(links: [Link; 16], to: usize, size: u16) -> bool
     requires { ⌜ to ≤ 16 ⌝ }
     ensures { λ r. ⌜ r ≡ allFrom (linkFits size) links 0 to ⌝ }
@@ -33,7 +36,7 @@ fn links_fit(links: [Link; 16], to: usize, size: u16) -> bool
     ok
 }
 
-// Whether the links from an offset on are unused.
+// Whether the links from an index on are unused.
 fn links_unused(links: [Link; 16], from: usize) -> bool
     requires { ⌜ from ≤ 16 ⌝ }
     ensures { λ r. ⌜ r ≡ allFrom linkUnused links from 16 ⌝ }
@@ -52,7 +55,7 @@ pub fn slotframe_fits(slotframe: Slotframe) -> bool
     ensures { λ r. ⌜ r ≡ slotframeFits slotframe ⌝ }
 {
     let links = slotframe.links;
-    let used = eb_sizes::at_most_16(slotframe.count);
+    let used = crate::sizes::at_most_16(slotframe.count);
     (0 < slotframe.size)
         & ((0 < slotframe.count)
             & ((slotframe.count < 17)

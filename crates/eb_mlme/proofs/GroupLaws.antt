@@ -9,9 +9,9 @@ use Rattle.octets_spec.proofs.PutLaws.{stored-out}
 use Rattle.eb_record_spec.specs.declared.Synchronization.{Synchronization}
 use Rattle.eb_record_spec.specs.declared.TimeslotTemplate.{TimeslotTemplate}
 use Rattle.eb_record_spec.specs.declared.Slotframe.{Slotframe}
-use Rattle.eb_frame_spec.specs.Frame.{groupDescriptor, shortDescriptor, longDescriptor, synchronizationBytes, templateSize, templateBytes, hoppingBytes, slotframeBytes, groupSize, groupBytes}
-use Rattle.eb_frame_spec.proofs.LengthLaws.{length-le, length-synchronization, length-hopping, length-template}
-use Rattle.eb_frame_spec.proofs.RowLaws.{two, three, le-joined}
+use Rattle.eb_write_spec.specs.Frame.{groupDescriptor, shortDescriptor, longDescriptor, synchronizationBytes, templateSize, templateBytes, hoppingBytes, slotframeBytes, groupSize, groupBytes}
+use Rattle.eb_write_spec.proofs.LengthLaws.{length-le, length-synchronization, length-hopping, length-template}
+use Rattle.eb_write_spec.proofs.RowLaws.{two, three, le-joined}
 
 -- ---- the ASN in five bytes
 low-asn : (asn : ℕ) → leBytes 5 (asn % 1099511627776) ≡ leBytes 5 asn

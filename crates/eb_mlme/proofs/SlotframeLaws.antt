@@ -8,10 +8,10 @@ use Rattle.octets_spec.specs.Number.{leBytes, stored}
 use Rattle.octets_spec.proofs.PutLaws.{stored-out}
 use Rattle.eb_record_spec.specs.declared.Link.{Link}
 use Rattle.eb_record_spec.specs.declared.Slotframe.{Slotframe}
-use Rattle.eb_frame_spec.specs.Frame.{shortDescriptor, linkBytes, linksBytes, slotframeBytes}
-use Rattle.eb_frame_spec.proofs.LengthLaws.{length-le}
-use Rattle.eb_frame_spec.proofs.RangeLaws.{length-mapped, clip-take}
-use Rattle.eb_frame_spec.proofs.RowLaws.{two, run-start, run-next, run-end, le-joined}
+use Rattle.eb_write_spec.specs.Frame.{shortDescriptor, linkBytes, linksBytes, slotframeBytes}
+use Rattle.eb_write_spec.proofs.LengthLaws.{length-le}
+use Rattle.eb_write_spec.proofs.RangeLaws.{length-mapped, clip-take}
+use Rattle.eb_write_spec.proofs.RowLaws.{two, run-start, run-next, run-end, le-joined}
 
 -- ---- a link, and the links
 pub link-number : (l : Link) → l .timeslot < 65536 → l .«channel_offset» < 65536 → leBytes 5 (l .timeslot + l .«channel_offset» * 65536 + l .options * 4294967296) ≡ linkBytes l

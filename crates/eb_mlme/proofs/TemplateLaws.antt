@@ -10,9 +10,9 @@ use Rattle.octets_spec.specs.Number.{leBytes, stored}
 use Rattle.octets_spec.proofs.PutLaws.{stored-out}
 use Rattle.octets_spec.proofs.ChoiceLaws.{if-on, if-off}
 use Rattle.eb_record_spec.specs.declared.TimeslotTemplate.{TimeslotTemplate}
-use Rattle.eb_frame_spec.specs.Frame.{shortDescriptor, numbersIn, lastWidth, timingsBytes, templateSize, templateBytes}
-use Rattle.eb_frame_spec.proofs.LengthLaws.{length-le, length-numbers, last-two}
-use Rattle.eb_frame_spec.proofs.RowLaws.{two, run-start, run-next, run-end, le-joined}
+use Rattle.eb_write_spec.specs.Frame.{shortDescriptor, numbersIn, lastWidth, timingsBytes, templateSize, templateBytes}
+use Rattle.eb_write_spec.proofs.LengthLaws.{length-le, length-numbers, last-two}
+use Rattle.eb_write_spec.proofs.RowLaws.{two, run-start, run-next, run-end, le-joined}
 
 -- ---- the first timings
 module _ (s : List ℕ) (at : ℕ) where

@@ -2,7 +2,7 @@
 ghost use mathlib.Core.Path.{_≡_};
 ghost use mathlib.Core.List.{_++_};
 ghost use Rattle.octets_spec.specs.Number.{leBytes, stored};
-ghost use Rattle.eb_frame_spec.specs.Frame.{groupDescriptor, synchronizationBytes, templateBytes, hoppingBytes, slotframeBytes, groupSize, groupBytes};
+ghost use Rattle.eb_write_spec.specs.Frame.{groupDescriptor, synchronizationBytes, templateBytes, hoppingBytes, slotframeBytes, groupSize, groupBytes};
 use eb_record_spec::Slotframe;
 use eb_record_spec::Synchronization;
 use eb_record_spec::TimeslotTemplate;
@@ -36,7 +36,7 @@ fn put_group_start(
         buffer,
         at,
         2,
-        eb_sizes::group_sizes::group_size(template, count) as u64 + 34816,
+        eb_limits::sizes::group_size(template, count) as u64 + 34816,
     );
     octets::put::put_le(buffer, at + 2, 8, synchronization_number(synchronization));
     crate::template::put_template(buffer, at + 10, template);
@@ -67,7 +67,7 @@ pub fn put_group(
     if buffer.len() <= at {
         return;
     }
-    let size = eb_sizes::group_sizes::template_size(template);
+    let size = eb_limits::sizes::template_size(template);
     put_group_start(buffer, at, synchronization, template, slotframe.count);
     put_group_rest(buffer, at + (12 + size), hopping, slotframe);
 }

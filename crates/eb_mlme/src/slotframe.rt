@@ -4,7 +4,7 @@ ghost use mathlib.Core.List.{_++_};
 ghost use Prim.Native.Nat.{_+_, _*_, _≤_};
 ghost use lib.ListN.{take};
 ghost use Rattle.octets_spec.specs.Number.{leBytes, stored};
-ghost use Rattle.eb_frame_spec.specs.Frame.{shortDescriptor, linkBytes, linksBytes, slotframeBytes};
+ghost use Rattle.eb_write_spec.specs.Frame.{shortDescriptor, linkBytes, linksBytes, slotframeBytes};
 use eb_record_spec::Link;
 use eb_record_spec::Slotframe;
 
@@ -50,5 +50,10 @@ pub fn put_slotframe(buffer: &mut [u8], at: usize, slotframe: Slotframe)
     let links = slotframe.links;
     let head = head_number(slotframe.handle, slotframe.size, slotframe.count);
     octets::put::put_le(buffer, at, 7, head);
-    put_links(buffer, at + 7, links, eb_sizes::at_most_16(slotframe.count));
+    put_links(
+        buffer,
+        at + 7,
+        links,
+        eb_limits::sizes::at_most_16(slotframe.count),
+    );
 }

@@ -2,7 +2,7 @@
 ghost use mathlib.Core.Path.{_≡_};
 ghost use lib.ListN.{take, drop};
 ghost use Rattle.octets_spec.specs.Number.{stored};
-ghost use Rattle.eb_frame_spec.specs.Frame.{numbersIn, lastWidth, timingsBytes, templateBytes};
+ghost use Rattle.eb_write_spec.specs.Frame.{numbersIn, lastWidth, timingsBytes, templateBytes};
 use eb_record_spec::TimeslotTemplate;
 
 // The first ten timings, two bytes each.
@@ -26,7 +26,7 @@ fn put_last_timings(buffer: &mut [u8], at: usize, timings: [u32; 12])
     if buffer.len() <= at {
         return;
     }
-    let width = eb_sizes::group_sizes::last_width(timings);
+    let width = eb_limits::sizes::last_width(timings);
     octets::put::put_le(buffer, at, width, timings[10] as u64);
     octets::put::put_le(buffer, at + width as usize, width, timings[11] as u64);
 }
@@ -49,7 +49,7 @@ pub fn put_template(buffer: &mut [u8], at: usize, template: TimeslotTemplate)
         return;
     }
     let timings = template.timings;
-    let size = eb_sizes::group_sizes::template_size(template);
+    let size = eb_limits::sizes::template_size(template);
     octets::put::put_le(
         buffer,
         at,

@@ -1,6 +1,6 @@
 -- The record without enums, as C has it: the form of a record, the record of a form, and which forms are a record's (docs/RULES.md, C
 -- interface). Assumes nothing.
-use Prim.Native.Nat.{ℕ, _%_, _^_}
+use Prim.Native.Nat.{ℕ, _-_, _%_, _^_}
 use mathlib.Core.Path.{_≡_}
 use mathlib.Core.Bool.{Bool, true, false, _&&_, _||_}
 use lib.Dec.{ltb, eqb}
@@ -11,6 +11,7 @@ use Rattle.eb_record_spec.specs.declared.Address.{Address}
 use Rattle.eb_record_spec.specs.declared.Address.the-variants.{Short, Extended}
 use Rattle.eb_record_spec.specs.declared.Beacon.{Beacon}
 use Rattle.eb_record_spec.specs.declared.BeaconForm.{BeaconForm}
+use Rattle.eb_record_spec.specs.Record.{blankJoining, blankBeacon}
 
 -- whether there is a sequence number
 unfoldable pub isSequenced : SequenceNumber → Bool
@@ -79,8 +80,47 @@ sourceFits (Extended n) = ltb n (2 ^ 64)
 
 -- a record whose source fits has a form that is a record's, and is the record of that form
 abbrev pub FormsGiveTheRecord : Type 0
-FormsGiveTheRecord = (b : Beacon) → sourceFits (b .source) ≡ true → (isBeacon (formOf b) ≡ true) × (beaconOf (formOf b) ≡ b)
+FormsGiveTheRecord = (beacon : Beacon) → sourceFits (beacon .source) ≡ true → (isBeacon (formOf beacon) ≡ true) × (beaconOf (formOf beacon) ≡ beacon)
 
 -- a form that is a record's is the form of its record
 abbrev pub RecordsGiveTheForm : Type 0
 RecordsGiveTheForm = (form : BeaconForm) → isBeacon form ≡ true → formOf (beaconOf form) ≡ form
+
+-- ---- records and forms that these claims speak of
+-- the blank record with this sequence number and this source
+abbrev pub blankFrom : SequenceNumber → Address → Beacon
+blankFrom sequence source = record {
+  sequence = sequence;
+  pan = 0;
+  source = source;
+  synchronization = blankBeacon .synchronization;
+  timeslot = blankBeacon .timeslot;
+  hopping = 0;
+  slotframe = blankBeacon .slotframe;
+  joining = blankJoining;
+}
+
+-- its form, with these marks and numbers
+abbrev pub blankForm : Bool → ℕ → Bool → ℕ → BeaconForm
+blankForm sequenced sequence extended source = record {
+  sequenced = sequenced;
+  sequence = sequence;
+  pan = 0;
+  extended = extended;
+  source = source;
+  synchronization = blankBeacon .synchronization;
+  timeslot = blankBeacon .timeslot;
+  hopping = 0;
+  slotframe = blankBeacon .slotframe;
+  joining = blankJoining;
+}
+
+-- a record with sequence number 7 and an extended source of all eight bytes, its form, and back
+abbrev pub ExtendedHasItsForm : Type 0
+ExtendedHasItsForm =
+    let beacon : Beacon = blankFrom (Number 7) (Extended (2 ^ 64 - 1)) in
+    (sourceFits (beacon .source) ≡ true) × (formOf beacon ≡ blankForm true 7 true (2 ^ 64 - 1)) × (isBeacon (formOf beacon) ≡ true) × (beaconOf (formOf beacon) ≡ beacon)
+
+-- forms that are no record's: a number where there is no sequence number, and a short source of 17 bits
+abbrev pub FormsOfNoRecord : Type 0
+FormsOfNoRecord = (isBeacon (blankForm false 7 true 0) ≡ false) × (isBeacon (blankForm true 7 false (2 ^ 16)) ≡ false)

@@ -1,6 +1,7 @@
-// The beacon record: what an Enhanced Beacon says, field by field in the order on air, and the numbers of refusals.
+// The beacon record: what an Enhanced Beacon says, field by field in the order on air, and its form without enums, as C has it.
 // Fields are wide enough to hold values outside their limits, so that a record that breaks a limit can be given and refused.
 ghost use mathlib.Core.Path.{_≡_};
+ghost use Rattle.eb_record_spec.specs.Form.{FormsGiveTheRecord, RecordsGiveTheForm, ExtendedHasItsForm, FormsOfNoRecord};
 ghost use Rattle.eb_record_spec.specs.Record.{blankBeacon, blankJoining, blankLink};
 
 // A source address: short (2 bytes) or extended (8 bytes).
@@ -143,3 +144,11 @@ pub fn blank() -> Beacon
         joining: blank_joining(),
     }
 }
+
+// Cites each theorem about records and their forms, so that the gate fails if the proof of one goes.
+pub fn theorems()
+    ensures forms_give_the_record { λ _. ⌜ FormsGiveTheRecord ⌝ }
+    ensures records_give_the_form { λ _. ⌜ RecordsGiveTheForm ⌝ }
+    ensures extended_has_its_form { λ _. ⌜ ExtendedHasItsForm ⌝ }
+    ensures forms_of_no_record { λ _. ⌜ FormsOfNoRecord ⌝ }
+{}

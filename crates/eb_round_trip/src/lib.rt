@@ -1,9 +1,9 @@
 // Writing a record and reading back what was written: every record that can be written comes back as itself.
 ghost use mathlib.Core.Path.{_≡_};
 ghost use lib.ListN.{length};
-ghost use Rattle.eb_read_back_spec.specs.ReadBack.{Sized};
+ghost use Rattle.eb_round_trip_spec.specs.ReadBack.{Sized};
 ghost use Rattle.eb_write_spec.specs.Write.{bufferAfter};
-ghost use Rattle.eb_round_trip.specs.RoundTrip.{refusedAs, backFrom};
+ghost use Rattle.eb_round_trip_spec.specs.RoundTrip.{refusedAs, backFrom};
 use eb_read::ReadAnswer;
 use eb_record_spec::Beacon;
 use refusal::DONE;

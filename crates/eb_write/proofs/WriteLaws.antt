@@ -12,8 +12,8 @@ use Rattle.octets_spec.specs.Choice.{ifEq}
 use Rattle.octets_spec.specs.Number.{stored}
 use Rattle.octets_spec.proofs.ChoiceLaws.{if-on, if-off, if-lt, if-ge}
 use Rattle.eb_record_spec.specs.declared.Beacon.{Beacon}
-use Rattle.eb_frame_spec.specs.Frame.{frameOf}
-use Rattle.eb_frame_spec.specs.Limits.{fits}
+use Rattle.eb_write_spec.specs.Frame.{frameOf}
+use Rattle.eb_write_spec.specs.Limits.{fits}
 use Rattle.eb_write_spec.specs.Write.{writtenNumber, writtenIn, bufferAfter}
 
 -- ---- a refusal, and the frame written

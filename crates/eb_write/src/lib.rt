@@ -22,7 +22,7 @@ pub fn write(buffer: &mut [u8], b: Beacon) -> Written
             length: 0,
         };
     }
-    let length = eb_sizes::lengths::frame_length(b);
+    let length = eb_limits::sizes::frame_length(b);
     if 125 < length {
         return Written {
             number: FRAME_TOO_LONG,

@@ -5,8 +5,8 @@ use native.Mathlib.Omega.{arith}
 use lib.ListN.{length}
 use Rattle.octets_spec.specs.Choice.{ifLt}
 use Rattle.octets_spec.proofs.ChoiceLaws.{if-on, if-off, if-lt, if-ge, was-on, was-off, was-lt, was-ge, either-lt}
-use Rattle.eb_frame_spec.specs.Frame.{frameOf}
-use Rattle.eb_frame_spec.specs.Limits.{fits}
+use Rattle.eb_write_spec.specs.Frame.{frameOf}
+use Rattle.eb_write_spec.specs.Limits.{fits}
 use Rattle.eb_write_spec.specs.Write.{writtenNumber}
 use Rattle.eb_write_spec.specs.Claims.{WriteNumbers}
 

@@ -1,1 +1,5 @@
+pub mod LengthLaws
+pub mod RangeLaws
+pub mod RowLaws
 pub mod Claimed
+pub mod FormLaws

@@ -5,8 +5,8 @@ use mathlib.Core.Bool.{true, false}
 use lib.ListN.{length}
 use Rattle.refusal.specs.Refusal.{done, frameTooLong, outOfLimits, bufferTooShort}
 use Rattle.eb_record_spec.specs.declared.Beacon.{Beacon}
-use Rattle.eb_frame_spec.specs.Frame.{frameOf}
-use Rattle.eb_frame_spec.specs.Limits.{fits}
+use Rattle.eb_write_spec.specs.Frame.{frameOf}
+use Rattle.eb_write_spec.specs.Limits.{fits}
 use Rattle.eb_write_spec.specs.Write.{writtenNumber}
 
 -- a number is given exactly when a condition holds

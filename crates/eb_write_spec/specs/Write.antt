@@ -5,8 +5,8 @@ use lib.ListN.{length, drop}
 use Rattle.octets_spec.specs.Choice.{ifOn, ifLt, ifEq}
 use Rattle.refusal.specs.Refusal.{done, frameTooLong, outOfLimits, bufferTooShort}
 use Rattle.eb_record_spec.specs.declared.Beacon.{Beacon}
-use Rattle.eb_frame_spec.specs.Frame.{frameOf}
-use Rattle.eb_frame_spec.specs.Limits.{fits}
+use Rattle.eb_write_spec.specs.Frame.{frameOf}
+use Rattle.eb_write_spec.specs.Limits.{fits}
 use Rattle.eb_write_spec.specs.declared.Written.{Written}
 
 -- the number for a buffer of this length: the limits first, then the frame's length, then the buffer's

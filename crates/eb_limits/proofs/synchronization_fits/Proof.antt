@@ -1,11 +1,9 @@
+-- `eb_limits::synchronization_fits` meets its contract. Assumes nothing.
 use Rattle.eb_limits.proofs.LimitLaws.{limits}
 use borrow.Author.Needs.{needs}
 use Rattle.eb_limits.proofs.synchronization_fits.Statement.{statement}
 use Rattle.eb_limits.proofs.synchronization_fits.Tie as tie
-use Rattle.eb_limits.proofs.synchronization_fits.Reads as reads
-use Rattle.eb_limits.proofs.synchronization_fits.Lts as lts
 
--- src/lib.rt:58:1
 returns : tie.Need-returns
 returns c = search (needs, limits)
 

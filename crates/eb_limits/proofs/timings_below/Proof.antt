@@ -1,7 +1,7 @@
 -- `eb_limits::timings_below` meets its contract. Assumes nothing.
 use Prim.Native.Nat.{_≤_}
 use mathlib.Core.Path.{_≡_}
-use Rattle.eb_frame_spec.specs.Range.{allFrom, below}
+use Rattle.eb_write_spec.specs.Range.{allFrom, below}
 use Rattle.eb_limits.proofs.LimitLaws.{limits}
 use borrow.Author.Needs.{needs}
 use Rattle.eb_limits.proofs.timings_below.Statement.{statement}

@@ -1,5 +1,5 @@
 -- `eb_round_trip::write_and_read` meets its contract. Assumes nothing.
-use Rattle.eb_round_trip.proofs.RoundTripLaws.{back-refused, back-fits, back-part, back-read}
+use Rattle.eb_round_trip_spec.proofs.RoundTripLaws.{back-refused, back-fits, back-part, back-read}
 use borrow.Author.Needs.{needs}
 use Rattle.eb_round_trip.proofs.write_and_read.Statement.{statement}
 use Rattle.eb_round_trip.proofs.write_and_read.Tie as tie

@@ -1,15 +1,12 @@
+-- `eb_limits::joining_limits::address_fits` meets its contract. Assumes nothing.
 use Rattle.eb_limits.proofs.JoiningLaws.{joinings}
 use borrow.Author.Needs.{needs}
 use Rattle.eb_limits.proofs.joining_limits.address_fits.Statement.{statement}
 use Rattle.eb_limits.proofs.joining_limits.address_fits.Tie as tie
-use Rattle.eb_limits.proofs.joining_limits.address_fits.Reads as reads
-use Rattle.eb_limits.proofs.joining_limits.address_fits.Lts as lts
 
--- src/lib.rt:14:9
 returns : tie.Need-returns
 returns c = search (needs, joinings)
 
--- src/lib.rt:10:1
 returns-2 : tie.Need-returns-2
 returns-2 c = search (needs, joinings)
 

@@ -1,11 +1,9 @@
+-- `eb_limits::slotframe_limits::link_fits` meets its contract. Assumes nothing.
 use Rattle.eb_limits.proofs.SlotframeLaws.{slotframes}
 use borrow.Author.Needs.{needs}
 use Rattle.eb_limits.proofs.slotframe_limits.link_fits.Statement.{statement}
 use Rattle.eb_limits.proofs.slotframe_limits.link_fits.Tie as tie
-use Rattle.eb_limits.proofs.slotframe_limits.link_fits.Reads as reads
-use Rattle.eb_limits.proofs.slotframe_limits.link_fits.Lts as lts
 
--- src/lib.rt:10:1
 returns : tie.Need-returns
 returns c = search (needs, slotframes)
 

@@ -2,8 +2,8 @@
 use lib.ListN.{length}
 use Prim.Native.Nat.{_≤_}
 use mathlib.Core.Path.{_≡_}
-use Rattle.eb_frame_spec.specs.Range.{allFrom}
-use Rattle.eb_frame_spec.specs.Limits.{linkFits}
+use Rattle.eb_write_spec.specs.Range.{allFrom}
+use Rattle.eb_write_spec.specs.Limits.{linkFits}
 use Rattle.eb_limits.proofs.SlotframeLaws.{slotframes}
 use borrow.Author.Needs.{needs}
 use Rattle.eb_limits.proofs.slotframe_limits.links_fit.Statement.{statement}

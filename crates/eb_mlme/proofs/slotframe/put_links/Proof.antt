@@ -3,7 +3,7 @@ use Prim.Native.Nat.{_+_, _-_, _*_, _≤_}
 use mathlib.Core.Path.{_≡_}
 use lib.ListN.{length, take, drop}
 use Rattle.octets_spec.specs.Number.{stored}
-use Rattle.eb_frame_spec.specs.Frame.{linksBytes}
+use Rattle.eb_write_spec.specs.Frame.{linksBytes}
 use Rattle.eb_mlme.proofs.SlotframeLaws.{links-next, slotframes}
 use borrow.Author.Needs.{needs}
 use Rattle.eb_mlme.proofs.slotframe.put_links.Statement.{statement}

@@ -3,7 +3,7 @@ use Prim.Native.Nat.{_+_, _-_, _*_, _≤_}
 use mathlib.Core.Path.{_≡_}
 use lib.ListN.{length, take, drop}
 use Rattle.octets_spec.specs.Number.{stored}
-use Rattle.eb_frame_spec.specs.Frame.{numbersIn}
+use Rattle.eb_write_spec.specs.Frame.{numbersIn}
 use Rattle.eb_mlme.proofs.TemplateLaws.{templates}
 use borrow.Author.Needs.{needs}
 use Rattle.eb_mlme.proofs.template.put_first_timings.Statement.{statement}

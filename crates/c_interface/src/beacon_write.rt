@@ -1,0 +1,23 @@
+// Writing a beacon for C: the record comes by value in its form without enums.
+ghost use mathlib.Core.Path.{_≡_};
+ghost use lib.ListN.{length};
+ghost use Rattle.eb_write_spec.specs.Form.{formWritten, bufferAfterForm};
+use eb_record_spec::BeaconForm;
+use eb_write_spec::Written;
+use refusal::OUT_OF_LIMITS;
+
+// Writes a record's frame at the start of a lent buffer. Refused in this order: a form that is no record's, or a record outside the limits
+// (8); a frame longer than 125 bytes (1); a buffer shorter than the frame (9). A refused call leaves the buffer as it was, with length 0.
+#[no_mangle]
+pub extern "C" fn tesolvagna_beacon_write(buffer: &mut [u8], beacon: BeaconForm) -> Written
+    ensures answer { λ r. ⌜ r ≡ formWritten beacon (length (now (buffer .entry))) ⌝ }
+    ensures buffer { λ _. ⌜ now (buffer .exit) ≡ bufferAfterForm beacon (now (buffer .entry)) ⌝ }
+{
+    if !eb_record::is_beacon(beacon) {
+        return Written {
+            number: OUT_OF_LIMITS,
+            length: 0,
+        };
+    }
+    eb_write::write(buffer, eb_record::beacon_of(beacon))
+}

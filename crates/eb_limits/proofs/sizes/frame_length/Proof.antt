@@ -1,0 +1,46 @@
+-- `eb_limits::sizes::frame_length` meets its contract. Assumes nothing.
+use Rattle.eb_limits.proofs.LengthLaws.{lengths}
+use borrow.Author.Needs.{needs}
+use Rattle.eb_limits.proofs.sizes.frame_length.Statement.{statement}
+use Rattle.eb_limits.proofs.sizes.frame_length.Tie as tie
+
+sequence-size-requires : tie.Need-sequence-size-requires
+sequence-size-requires c κs = search needs
+
+add-result : tie.Need-add-result
+add-result c = search needs
+
+source-size-requires : tie.Need-source-size-requires
+source-size-requires c κs = search needs
+
+add-result-2 : tie.Need-add-result-2
+add-result-2 c = search needs
+
+group-size-requires : tie.Need-group-size-requires
+group-size-requires c κs = search needs
+
+add-result-3 : tie.Need-add-result-3
+add-result-3 c = search needs
+
+joining-part-requires : tie.Need-joining-part-requires
+joining-part-requires c κs = search needs
+
+add-result-4 : tie.Need-add-result-4
+add-result-4 c = search needs
+
+returns : tie.Need-returns
+returns c = search (needs, lengths)
+
+pub frame-length-spec : {M : Type 1} → statement M
+frame-length-spec =
+    tie.close
+    (tie.spec
+    sequence-size-requires
+    add-result
+    source-size-requires
+    add-result-2
+    group-size-requires
+    add-result-3
+    joining-part-requires
+    add-result-4
+    returns)

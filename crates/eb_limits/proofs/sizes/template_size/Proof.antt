@@ -1,0 +1,27 @@
+-- `eb_limits::sizes::template_size` meets its contract. Assumes nothing.
+use Rattle.eb_limits.proofs.GroupSizeLaws.{sizing}
+use borrow.Author.Needs.{needs}
+use Rattle.eb_limits.proofs.sizes.template_size.Statement.{statement}
+use Rattle.eb_limits.proofs.sizes.template_size.Tie as tie
+
+last-width-requires : tie.Need-last-width-requires
+last-width-requires c κs = search needs
+
+cast-result : tie.Need-cast-result
+cast-result c = search needs
+
+mul-result : tie.Need-mul-result
+mul-result c = search needs
+
+add-result : tie.Need-add-result
+add-result c = search needs
+
+returns : tie.Need-returns
+returns c = search (needs, sizing)
+
+returns-2 : tie.Need-returns-2
+returns-2 c = search (needs, sizing)
+
+pub template-size-spec : {M : Type 1} → statement M
+template-size-spec =
+    tie.close (tie.spec last-width-requires cast-result mul-result add-result returns returns-2)

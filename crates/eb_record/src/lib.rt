@@ -1,0 +1,54 @@
+// The record of a form without enums, as C has it, and which forms are a record's (eb_record_spec/specs/Form.antt).
+ghost use mathlib.Core.Path.{_≡_};
+ghost use Rattle.eb_record_spec.specs.Form.{sequenceFrom, sourceFrom, beaconOf, isBeacon};
+use eb_record_spec::Address;
+use eb_record_spec::Beacon;
+use eb_record_spec::BeaconForm;
+use eb_record_spec::SequenceNumber;
+
+// Whether a form is a record's: no number where there is no sequence number, and no short source over 16 bits.
+pub fn is_beacon(form: BeaconForm) -> bool
+    ensures { λ r. ⌜ r ≡ isBeacon form ⌝ }
+{
+    (form.sequenced | (form.sequence == 0)) & (form.extended | (form.source < 0x1_0000))
+}
+
+fn sequence_from(sequenced: bool, number: u8) -> SequenceNumber
+    ensures { λ r. ⌜ r ≡ sequenceFrom sequenced number ⌝ }
+{
+    if sequenced {
+        return SequenceNumber::Number(number);
+    }
+    SequenceNumber::Absent
+}
+
+fn source_from(extended: bool, number: u64) -> Address
+    ensures { λ r. ⌜ r ≡ sourceFrom extended number ⌝ }
+{
+    if extended {
+        return Address::Extended(number);
+    }
+    Address::Short((number % 0x1_0000) as u16)
+}
+
+// The record of a form.
+pub fn beacon_of(form: BeaconForm) -> Beacon
+    ensures { λ r. ⌜ r ≡ beaconOf form ⌝ }
+{
+    let sequence = sequence_from(form.sequenced, form.sequence);
+    let source = source_from(form.extended, form.source);
+    let synchronization = form.synchronization;
+    let timeslot = form.timeslot;
+    let slotframe = form.slotframe;
+    let joining = form.joining;
+    Beacon {
+        sequence,
+        pan: form.pan,
+        source,
+        synchronization,
+        timeslot,
+        hopping: form.hopping,
+        slotframe,
+        joining,
+    }
+}

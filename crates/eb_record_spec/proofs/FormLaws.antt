@@ -1,0 +1,101 @@
+-- The form of a record and the record of a form are inverses of each other. Assumes nothing.
+use Prim.Native.Nat.{ℕ, _<_, _%_, _^_}
+use mathlib.Core.Path.{_≡_, refl, sym, _∙_, ap}
+use mathlib.Core.Bool.{Bool, true, false, _&&_, _||_}
+use native.Mathlib.Nat.{mod-eq-of-lt}
+use borrow.Author.Tests.{ltb-true, eqb-true}
+use lib.Dec.{ltb, eqb}
+use Rattle.octets_spec.specs.Choice.{ifOn}
+use Rattle.eb_record_spec.specs.declared.SequenceNumber.{SequenceNumber}
+use Rattle.eb_record_spec.specs.declared.SequenceNumber.the-variants.{Absent, Number}
+use Rattle.eb_record_spec.specs.declared.Address.{Address}
+use Rattle.eb_record_spec.specs.declared.Address.the-variants.{Short, Extended}
+use Rattle.eb_record_spec.specs.declared.Beacon.{Beacon}
+use Rattle.eb_record_spec.specs.declared.BeaconForm.{BeaconForm}
+use Rattle.eb_record_spec.specs.Form.{isSequenced, sequenceNumber, isExtended, addressNumber, formOf, sequenceFrom, sourceFrom, beaconOf, isBeacon, sourceFits, FormsGiveTheRecord, RecordsGiveTheForm, ExtendedHasItsForm, FormsOfNoRecord}
+
+-- ---- two tests at once
+both : (x y : Bool) → x && y ≡ true → (x ≡ true) × (y ≡ true)
+both true y e = (refl, e)
+both false y e = (e, cc)
+
+-- ---- the sequence number
+abbrev sequenceTest : Bool → ℕ → Bool
+sequenceTest mark n = mark || eqb n 0
+
+sequence-tested : (q : SequenceNumber) → sequenceTest (isSequenced q) (sequenceNumber q) ≡ true
+unfolding isSequenced sequenceNumber
+sequence-tested Absent = refl
+sequence-tested (Number n) = refl
+
+sequence-back : (q : SequenceNumber) → sequenceFrom (isSequenced q) (sequenceNumber q) ≡ q
+unfolding isSequenced sequenceNumber sequenceFrom ifOn
+sequence-back Absent = refl
+sequence-back (Number n) = refl
+
+sequence-mark : (mark : Bool) (n : ℕ) → isSequenced (sequenceFrom mark n) ≡ mark
+unfolding isSequenced sequenceFrom ifOn
+sequence-mark true n = refl
+sequence-mark false n = refl
+
+sequence-number : (mark : Bool) (n : ℕ) → sequenceTest mark n ≡ true → sequenceNumber (sequenceFrom mark n) ≡ n
+unfolding sequenceNumber sequenceFrom ifOn
+sequence-number true n e = refl
+sequence-number false n e = sym (eqb-true n 0 e)
+
+-- ---- the source
+abbrev sourceTest : Bool → ℕ → Bool
+sourceTest extended n = extended || ltb n (2 ^ 16)
+
+source-tested : (a : Address) → sourceFits a ≡ true → sourceTest (isExtended a) (addressNumber a) ≡ true
+unfolding isExtended addressNumber sourceFits
+source-tested (Short n) e = e
+source-tested (Extended n) e = refl
+
+source-back : (a : Address) → sourceTest (isExtended a) (addressNumber a) ≡ true → sourceFrom (isExtended a) (addressNumber a) ≡ a
+unfolding isExtended addressNumber sourceFrom ifOn
+source-back (Short n) e = ap Short (mod-eq-of-lt (ltb-true n 65536 e))
+source-back (Extended n) e = refl
+
+source-kind : (extended : Bool) (n : ℕ) → isExtended (sourceFrom extended n) ≡ extended
+unfolding isExtended sourceFrom ifOn
+source-kind true n = refl
+source-kind false n = refl
+
+source-number : (extended : Bool) (n : ℕ) → sourceTest extended n ≡ true → addressNumber (sourceFrom extended n) ≡ n
+unfolding addressNumber sourceFrom ifOn
+source-number true n e = refl
+source-number false n e = mod-eq-of-lt (ltb-true n 65536 e)
+
+-- ---- both
+pub form-fits : (beacon : Beacon) → sourceFits (beacon .source) ≡ true → isBeacon (formOf beacon) ≡ true
+unfolding isBeacon formOf
+form-fits beacon fits = rw (sequence-tested (beacon .sequence), source-tested (beacon .source) fits)
+
+form-back : (beacon : Beacon) → isBeacon (formOf beacon) ≡ true → beaconOf (formOf beacon) ≡ beacon
+unfolding isBeacon formOf beaconOf
+form-back beacon is =
+    let source = both (sequenceTest (isSequenced (beacon .sequence)) (sequenceNumber (beacon .sequence))) (sourceTest (isExtended (beacon .source)) (addressNumber (beacon .source))) is .1 in
+    rw (sequence-back (beacon .sequence), source-back (beacon .source) source)
+
+pub forms-give-the-record : FormsGiveTheRecord
+forms-give-the-record beacon fits = let is = form-fits beacon fits in (is, form-back beacon is)
+
+pub records-give-the-form : RecordsGiveTheForm
+unfolding isBeacon formOf beaconOf
+records-give-the-form form is =
+    let tests = both _ _ is in
+    rw (sequence-mark (form .sequenced) (form .sequence), sequence-number (form .sequenced) (form .sequence) (tests .0), source-kind (form .extended) (form .source), source-number (form .extended) (form .source) (tests .1))
+
+-- a form that is a record's and the form of a record is that record's
+pub form-is-of : (form : BeaconForm) (beacon : Beacon) → isBeacon form ≡ true → form ≡ formOf beacon → beaconOf form ≡ beacon
+form-is-of form beacon is e = rw e (form-back beacon (rw e at is))
+
+-- a record with an extended source, and forms that are no record's: the checker computes them
+pub extended-has-its-form : ExtendedHasItsForm
+unfolding isSequenced sequenceNumber isExtended addressNumber formOf sequenceFrom sourceFrom beaconOf isBeacon sourceFits ifOn
+extended-has-its-form = (refl, refl, refl, refl)
+
+pub forms-of-no-record : FormsOfNoRecord
+unfolding isBeacon
+forms-of-no-record = (refl, refl)
