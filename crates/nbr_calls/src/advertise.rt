@@ -1,7 +1,7 @@
 // Advertise: sets a neighbour's rank, or adds the neighbour. The rules are those of docs/RULES.md, Neighbours.
 use nbr_metric_spec::Place;
-use nbr_places_spec::search::find;
-use nbr_places_spec::search::find_free;
+use nbr_table::search::find;
+use nbr_table::search::find_free;
 use nbr_table::table_store::with_place;
 use nbr_table_spec::Answer;
 use nbr_table_spec::Table;

@@ -1,5 +1,5 @@
 // Forget: removes a neighbour. The rules are those of docs/RULES.md, Neighbours.
-use nbr_places_spec::search::find;
+use nbr_table::search::find;
 use nbr_table::table_store::with_parent;
 use nbr_table::table_store::with_place;
 use nbr_table_spec::Answer;

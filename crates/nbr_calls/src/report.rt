@@ -1,6 +1,6 @@
 // Report: counts attempts to reach a neighbour. The rules are those of docs/RULES.md, Neighbours.
 use nbr_metric_spec::Place;
-use nbr_places_spec::search::find;
+use nbr_table::search::find;
 use nbr_table::table_store::with_place;
 use nbr_table_spec::Answer;
 use nbr_table_spec::Table;
@@ -46,7 +46,7 @@ fn attempted(p: Place, attempts: u16, acked: bool) -> Place
 
 // Counts 1 to 4 attempts to reach a neighbour, acknowledged or not. A table that breaks a rule and other numbers of attempts
 // are refused with 8, a neighbour that is not in the table with 10.
-pub fn report(t: Table, id: u64, attempts: u16, acked: bool) -> Answer
+pub fn report(t: Table, id: u64, attempts: u32, acked: bool) -> Answer
     ensures { λ r. ⌜ r ≡ reported t id attempts acked ⌝ }
 {
     if nbr_table::is_broken(t) {
@@ -72,7 +72,7 @@ pub fn report(t: Table, id: u64, attempts: u16, acked: bool) -> Answer
     if i < 32 {
         return Answer {
             number: 0,
-            table: with_place(t, i, attempted(ps[i], attempts, acked)),
+            table: with_place(t, i, attempted(ps[i], attempts as u16, acked)),
         };
     }
     Answer {

@@ -1,16 +1,11 @@
 // The join metric that a node puts in its beacons (docs/RULES.md, Neighbours).
+use nbr_metric_spec::JoinAnswer;
 use refusal::OUT_OF_LIMITS;
 ghost use mathlib.Core.Path.{_≡_};
-ghost use Rattle.nbr_metric.specs.JoinMetric.{joinMetric};
-
-// A join metric with the call's number; 0 where it is refused.
-pub struct JoinAnswer {
-    pub number: u8,
-    pub metric: u8,
-}
+ghost use Rattle.nbr_metric_spec.specs.JoinMetric.{joinMetric};
 
 // The join metric that a node of this rank puts in its beacons; a rank outside 256 to 65534 is refused with 8.
-pub fn join_metric(rank: u16) -> JoinAnswer
+pub fn join_metric(rank: u32) -> JoinAnswer
     ensures { λ r. ⌜ r ≡ joinMetric rank ⌝ }
 {
     if rank < 256 {

@@ -4,13 +4,21 @@ ghost use mathlib.Core.Path.{_≡_};
 ghost use Rattle.nbr_metric_spec.specs.Metric.{blank as freePlace};
 
 // A place of the table. The counters are wider than their limits, so that a table over them can be given, and is refused.
-// The identifier stands first, so that a place takes 16 bytes.
+// C knows it as struct tesolvagna_place; its 16 bytes have padding behind the mark only.
+#[repr(C)]
 pub struct Place {
     pub id: u64,
     pub rank: u16,
     pub attempts: u16,
     pub acked: u16,
     pub used: bool,
+}
+
+// A join metric with the call's number; 0 where it is refused.
+#[repr(C)]
+pub struct JoinAnswer {
+    pub number: u8,
+    pub metric: u8,
 }
 
 // A free place.

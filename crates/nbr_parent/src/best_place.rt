@@ -1,7 +1,7 @@
 // The best of the places of a table: least path cost, then lower identifier. The rules are those of docs/RULES.md, Neighbours.
 use nbr_metric_spec::Place;
 ghost use mathlib.Core.Path.{_≡_};
-ghost use Rattle.nbr_places_spec.specs.Places.{best as bestPlace, better as betterPlace, nearer as nearerPlace};
+ghost use Rattle.nbr_table_spec.specs.Places.{best as bestPlace, better as betterPlace, nearer as nearerPlace};
 
 // The better of two eligible places.
 fn nearer(b: Place, p: Place) -> Place

@@ -1,6 +1,6 @@
 // The place of the held parent.
 use nbr_metric_spec::Place;
-use nbr_places_spec::search::find;
+use nbr_table::search::find;
 use nbr_table_spec::Parent;
 use nbr_table_spec::Table;
 ghost use mathlib.Core.Path.{_≡_};

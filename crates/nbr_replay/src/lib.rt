@@ -1,5 +1,6 @@
 // Runs a log of calls on a table, and counts what the claim that parents do not flap speaks of.
 // A log is four lent lists, one row for each call; specs/Log.antt says how a row is read.
+use nbr_replay_spec::Outcome;
 use nbr_table_spec::Table;
 
 mod tally;
@@ -10,28 +11,14 @@ ghost use Prim.Native.Nat.{_≤_};
 ghost use lib.ListN.{length};
 ghost use Rattle.octets_spec.specs.Choice.{ifLt};
 ghost use Rattle.refusal.specs.Refusal.{outOfLimits};
-ghost use Rattle.nbr_replay.specs.Log.{calls, log as logOf};
-ghost use Rattle.nbr_replay.specs.Replay.{nothing, refusedReplay, replayed};
-ghost use Rattle.nbr_replay.specs.Tally.{tally as tallyOf};
+ghost use Rattle.nbr_replay_spec.specs.Log.{calls, log as logOf};
+ghost use Rattle.nbr_replay_spec.specs.Replay.{nothing, refusedReplay, replayed};
+ghost use Rattle.nbr_replay_spec.specs.Tally.{tally as tallyOf};
 
 pub mod log;
 pub mod log_call;
 pub mod replay;
 pub mod visit;
-
-// What a log comes to: the table at the end, how many evaluations there were, how many of them changed the parent, all
-// rises of the held parent's cost between one evaluation and the next, its cost on entry to the first and on exit from the
-// last, and whether the claim applies: at least one evaluation, and at each an eligible parent on entry.
-pub struct Outcome {
-    pub number: u8,
-    pub table: Table,
-    pub evaluations: u32,
-    pub changes: u32,
-    pub rises: u64,
-    pub first: u32,
-    pub last: u32,
-    pub applies: bool,
-}
 
 // Nothing counted.
 fn none(number: u8, t: Table, applies: bool) -> Outcome

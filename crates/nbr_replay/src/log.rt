@@ -1,6 +1,6 @@
 // A log of calls as four lent lists, one row for each call (specs/Log.antt): which logs are refused.
 ghost use mathlib.Core.Path.{_≡_};
-ghost use Rattle.nbr_replay.specs.Log.{equallyLong, log, someOver, unfitLog};
+ghost use Rattle.nbr_replay_spec.specs.Log.{equallyLong, log, someOver, unfitLog};
 
 // Whether some byte is over m.
 fn any_over(s: &[u8], m: u8) -> bool

@@ -2,7 +2,7 @@
 use nbr_table_spec::Table;
 ghost use mathlib.Core.Path.{_≡_};
 ghost use Rattle.nbr_stability_spec.specs.Stability.{after};
-ghost use Rattle.nbr_replay.specs.Log.{call};
+ghost use Rattle.nbr_replay_spec.specs.Log.{call};
 
 // The table that the call of a row gives back, refused or not; specs/Log.antt says how a row is read.
 pub fn apply(t: Table, kind: u8, id: u64, value: u16, flag: u8) -> Table
@@ -13,7 +13,7 @@ pub fn apply(t: Table, kind: u8, id: u64, value: u16, flag: u8) -> Table
         return a.table;
     }
     if kind == 1 {
-        let a = nbr_calls::report::report(t, id, value, flag == 1);
+        let a = nbr_calls::report::report(t, id, value as u32, flag == 1);
         return a.table;
     }
     if kind == 2 {

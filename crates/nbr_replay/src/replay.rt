@@ -1,12 +1,12 @@
 // Runs a log of calls on a table, and promises that parents do not flap on the numbers that it gives.
-use crate::Outcome;
+use nbr_replay_spec::Outcome;
 use nbr_table_spec::Table;
 ghost use mathlib.Core.Path.{_≡_};
 ghost use mathlib.Core.Bool.{true};
 ghost use Prim.Native.Nat.{_+_, _*_, _≤_};
 ghost use Rattle.nbr_stability_spec.specs.Stability.{evaluations, noneRefused};
-ghost use Rattle.nbr_replay.specs.Log.{calls, log as logOf};
-ghost use Rattle.nbr_replay.specs.Replay.{replayed};
+ghost use Rattle.nbr_replay_spec.specs.Log.{calls, log as logOf};
+ghost use Rattle.nbr_replay_spec.specs.Replay.{replayed};
 
 // Runs a log on a table. A table that breaks a rule is refused with 8; so is a log whose lists are not equally long, that
 // has over 65535 rows, a kind over 3 or a flag over 1.

@@ -1,16 +1,16 @@
 // What is counted after some calls, and one call more. Until the end, `applies` says that each evaluation so far had an
 // eligible parent on entry.
-use crate::Outcome;
 use crate::visit::seen;
 use nbr_metric::increment::minus;
+use nbr_replay_spec::Outcome;
 use nbr_table_spec::Table;
 ghost use mathlib.Core.Path.{_≡_};
 ghost use mathlib.Core.List.{[]};
 ghost use mathlib.Core.Bool.{_&&_};
 ghost use Prim.Native.Nat.{_+_, _-_, _<_, _≤_, _^_};
 ghost use Rattle.octets_spec.specs.Choice.{ifEq};
-ghost use Rattle.nbr_replay.specs.Log.{call};
-ghost use Rattle.nbr_replay.specs.Tally.{OneMore, Room, advanced, moved as movedTo, noted as notedWith, tally as tallyOf};
+ghost use Rattle.nbr_replay_spec.specs.Log.{call};
+ghost use Rattle.nbr_replay_spec.specs.Tally.{OneMore, Room, advanced, moved as movedTo, noted as notedWith, tally as tallyOf};
 
 // Nothing counted yet.
 pub(crate) fn start(t: Table) -> Outcome

@@ -1,21 +1,14 @@
 // What one evaluation shows to the claim that parents do not flap.
 use nbr_metric::path_cost;
 use nbr_parent::held_parent::held;
+use nbr_replay_spec::Visit;
 use nbr_table_spec::Parent;
 use nbr_table_spec::Table;
 ghost use mathlib.Core.Path.{_≡_};
 ghost use mathlib.Core.Bool.{cond};
 ghost use Prim.Native.Nat.{_<_, _≤_, _^_};
 ghost use Rattle.nbr_table_spec.specs.Calls.{sameParent};
-ghost use Rattle.nbr_replay.specs.Visit.{visited};
-
-// 1 for a change of the parent, the held parent's cost on entry and on exit, and whether the parent held on entry is eligible.
-pub struct Visit {
-    pub change: u32,
-    pub entry: u32,
-    pub exit: u32,
-    pub eligible: bool,
-}
+ghost use Rattle.nbr_replay_spec.specs.Visit.{visited};
 
 // Whether two held parents are the same.
 fn same(q: Parent, p: Parent) -> bool

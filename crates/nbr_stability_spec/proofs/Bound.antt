@@ -11,8 +11,8 @@ use borrow.Author.Tests.{eq-eqb, not-true}
 use Rattle.octets_spec.specs.Choice.{ifOn, ifLt}
 use Rattle.nbr_metric_spec.specs.Metric.{eligible, pathCost}
 use Rattle.nbr_metric_spec.proofs.MetricLaws.{both, cost-to}
-use Rattle.nbr_places_spec.proofs.PlaceLaws.{clash, split}
-use Rattle.nbr_places_spec.specs.Places.{best}
+use Rattle.nbr_table_spec.proofs.PlaceLaws.{clash, split}
+use Rattle.nbr_table_spec.specs.Places.{best}
 use Rattle.nbr_table_spec.specs.declared.Parent.{Parent}
 use Rattle.nbr_table_spec.specs.declared.Parent.the-variants.{None, Held}
 use Rattle.nbr_table_spec.specs.declared.Table.{Table}

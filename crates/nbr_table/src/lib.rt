@@ -2,13 +2,14 @@
 use crate::place_limits::any_twice;
 use crate::place_limits::any_unfit;
 use nbr_metric_spec::Place;
-use nbr_places_spec::search::find;
+use crate::search::find;
 use nbr_table_spec::Parent;
 use nbr_table_spec::Table;
 ghost use mathlib.Core.Path.{_≡_};
 ghost use Rattle.nbr_table_spec.specs.Calls.{broken, parentMissing};
 
 pub mod place_limits;
+pub mod search;
 pub mod table_store;
 
 // Whether a held parent is not among the places in use.

@@ -1,11 +1,11 @@
 // Which places of a table break a rule: by themselves, or by an identifier that stands twice.
 // The rules are those of docs/RULES.md, Neighbours.
 use nbr_metric_spec::Place;
-use nbr_places_spec::search::find;
+use crate::search::find;
 ghost use mathlib.Core.Path.{_≡_};
 ghost use mathlib.Core.Bool.{_&&_};
 ghost use lib.ListN.{drop};
-ghost use Rattle.nbr_places_spec.specs.Places.{known, nonzero, some, twice, unfit};
+ghost use Rattle.nbr_table_spec.specs.Places.{known, nonzero, some, twice, unfit};
 
 // Whether a place is not all zero.
 fn is_nonzero(p: Place) -> bool

@@ -13,9 +13,9 @@ use Rattle.octets_spec.proofs.ChoiceLaws.{choices}
 use Rattle.nbr_metric_spec.specs.declared.Place.{Place}
 use Rattle.nbr_metric_spec.specs.Metric.{blank, eligible, pathCost}
 use Rattle.nbr_metric_spec.proofs.MetricLaws.{cost-to}
-use Rattle.nbr_places_spec.specs.Places.{best, changeFirst, free, known, named, some, twice, unfit, nonzero}
-use Rattle.nbr_places_spec.specs.Search.{firstFrom}
-use Rattle.nbr_places_spec.proofs.PlaceLaws.{answered, length-mapped, first-at, fit-limits, from-0, neither, none-at, set-there, some-missing, some-there}
+use Rattle.nbr_table_spec.specs.Places.{best, changeFirst, free, known, named, some, twice, unfit, nonzero}
+use Rattle.nbr_table_spec.specs.Search.{firstFrom}
+use Rattle.nbr_table_spec.proofs.PlaceLaws.{answered, length-mapped, first-at, fit-limits, from-0, neither, none-at, set-there, some-missing, some-there}
 use Rattle.nbr_table_spec.specs.declared.Parent.{Parent}
 use Rattle.nbr_table_spec.specs.declared.Parent.the-variants.{None, Held}
 use Rattle.nbr_table_spec.specs.declared.Table.{Table}

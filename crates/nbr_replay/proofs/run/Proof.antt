@@ -1,9 +1,9 @@
 -- `nbr_replay::run` meets its contract. The invariant: what is counted is what the rows passed come to, and each count has room for the rows left. Assumes nothing.
-use Rattle.nbr_replay.proofs.ReplayLaws.{tallyWays, runWays}
+use Rattle.nbr_replay_spec.proofs.ReplayLaws.{tallyWays, runWays}
 use Prim.Native.Nat.{_-_, _*_, _^_, _≤_}
 use lib.ListN.{length}
-use Rattle.nbr_replay.specs.Log.{log}
-use Rattle.nbr_replay.proofs.ReplayLaws.{Passed, passed-next}
+use Rattle.nbr_replay_spec.specs.Log.{log}
+use Rattle.nbr_replay_spec.proofs.ReplayLaws.{Passed, passed-next}
 use native.Mathlib.Omega.{arith}
 use borrow.Author.Needs.{needs}
 use Rattle.nbr_replay.proofs.run.Statement.{statement}

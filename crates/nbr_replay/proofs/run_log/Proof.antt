@@ -1,6 +1,6 @@
 -- `nbr_replay::run_log` meets its contract. Assumes nothing.
-use Rattle.nbr_replay.proofs.ReplayLaws.{tallyWays, runWays}
-use Rattle.nbr_replay.proofs.LogLaws.{run-ready}
+use Rattle.nbr_replay_spec.proofs.ReplayLaws.{tallyWays, runWays}
+use Rattle.nbr_replay_spec.proofs.LogLaws.{run-ready}
 use borrow.Author.Needs.{needs}
 use Rattle.nbr_replay.proofs.run_log.Statement.{statement}
 use Rattle.nbr_replay.proofs.run_log.Tie as tie

@@ -2,8 +2,8 @@
 use Prim.Native.Nat.{_-_, _≤_}
 use mathlib.Core.Path.{_≡_}
 use lib.ListN.{length, drop}
-use Rattle.nbr_places_spec.specs.Places.{best, bestOf}
-use Rattle.nbr_places_spec.proofs.PlaceLaws.{bestWays}
+use Rattle.nbr_table_spec.specs.Places.{best, bestOf}
+use Rattle.nbr_table_spec.proofs.PlaceLaws.{bestWays}
 use borrow.Author.Needs.{needs}
 use Rattle.nbr_parent.proofs.best_place.best.Statement.{statement}
 use Rattle.nbr_parent.proofs.best_place.best.Tie as tie

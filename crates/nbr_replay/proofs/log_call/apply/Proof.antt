@@ -1,5 +1,5 @@
 -- `nbr_replay::log_call::apply` meets its contract. Assumes nothing.
-use Rattle.nbr_replay.proofs.LogLaws.{callWays}
+use Rattle.nbr_replay_spec.proofs.LogLaws.{callWays}
 use borrow.Author.Needs.{needs}
 use Rattle.nbr_replay.proofs.log_call.apply.Statement.{statement}
 use Rattle.nbr_replay.proofs.log_call.apply.Tie as tie

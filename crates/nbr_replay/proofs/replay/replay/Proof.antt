@@ -1,5 +1,5 @@
 -- `nbr_replay::replay::replay` meets its contract. Assumes nothing.
-use Rattle.nbr_replay.proofs.ReplayLaws.{replay-accepted, replay-bound, replay-few}
+use Rattle.nbr_replay_spec.proofs.ReplayLaws.{replay-accepted, replay-bound, replay-few}
 use borrow.Author.Needs.{needs}
 use Rattle.nbr_replay.proofs.replay.replay.Statement.{statement}
 use Rattle.nbr_replay.proofs.replay.replay.Tie as tie

@@ -1,5 +1,5 @@
 -- `nbr_replay::tally::noted` meets its contract. Assumes nothing.
-use Rattle.nbr_replay.proofs.ReplayLaws.{noted-is}
+use Rattle.nbr_replay_spec.proofs.ReplayLaws.{noted-is}
 use native.Mathlib.Omega.{arith}
 use borrow.Author.Needs.{needs}
 use Rattle.nbr_replay.proofs.tally.noted.Statement.{statement}

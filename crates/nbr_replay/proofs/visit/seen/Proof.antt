@@ -1,5 +1,5 @@
 -- `nbr_replay::visit::seen` meets its contract. Assumes nothing.
-use Rattle.nbr_replay.proofs.VisitLaws.{visitWays}
+use Rattle.nbr_replay_spec.proofs.VisitLaws.{visitWays}
 use borrow.Author.Needs.{needs}
 use Rattle.nbr_replay.proofs.visit.seen.Statement.{statement}
 use Rattle.nbr_replay.proofs.visit.seen.Tie as tie

@@ -1,0 +1,26 @@
+// What a log of calls on a table comes to: definitions (specs/) and the types that they speak of.
+// The rules are those of docs/RULES.md, Parents do not flap.
+use nbr_table_spec::Table;
+
+// What a log comes to: the table at the end, how many evaluations there were, how many of them changed the parent, all
+// rises of the held parent's cost between one evaluation and the next, its cost on entry to the first and on exit from the
+// last, and whether the claim applies: at least one evaluation, and at each an eligible parent on entry.
+pub struct Outcome {
+    pub number: u8,
+    pub table: Table,
+    pub evaluations: u32,
+    pub changes: u32,
+    pub rises: u64,
+    pub first: u32,
+    pub last: u32,
+    pub applies: bool,
+}
+
+// What one evaluation shows: 1 for a change of the parent, the held parent's cost on entry and on exit, and whether the
+// parent held on entry is eligible.
+pub struct Visit {
+    pub change: u32,
+    pub entry: u32,
+    pub exit: u32,
+    pub eligible: bool,
+}

@@ -1,0 +1,53 @@
+// Looking for a place, lowest-numbered first. A place that is not there has the number 32.
+use nbr_metric_spec::Place;
+ghost use mathlib.Core.Path.{_≡_};
+ghost use Rattle.nbr_table_spec.specs.Places.{free, named};
+ghost use Rattle.nbr_table_spec.specs.Search.{firstFrom};
+
+// Whether a place is in use by this neighbour.
+fn is_named(p: Place, id: u64) -> bool
+    ensures { λ r. ⌜ r ≡ named id p ⌝ }
+{
+    if p.used {
+        return p.id == id;
+    }
+    false
+}
+
+// The number of the neighbour's place, looked for from a number on; that number where it is over 32.
+pub fn find(ps: [Place; 32], from: usize, id: u64) -> usize
+    ensures { λ r. ⌜ r ≡ firstFrom (named id) from ps ⌝ }
+{
+    let mut i = from;
+    while i < 32 {
+        if is_named(ps[i], id) {
+            return i;
+        }
+        i += 1;
+    }
+    i
+}
+
+// Whether a place is free.
+fn is_free(p: Place) -> bool
+    ensures { λ r. ⌜ r ≡ free p ⌝ }
+{
+    if p.used {
+        return false;
+    }
+    true
+}
+
+// The number of the lowest-numbered free place.
+pub fn find_free(ps: [Place; 32]) -> usize
+    ensures { λ r. ⌜ r ≡ firstFrom free 0 ps ⌝ }
+{
+    let mut i = 0;
+    while i < 32 {
+        if is_free(ps[i]) {
+            return i;
+        }
+        i += 1;
+    }
+    i
+}
