@@ -1,4 +1,4 @@
 pub mod FixedLaws
-pub mod NumbersLaws
-pub mod ArrayLaws
-pub mod FrameLaws
+pub mod HeaderLaws
+pub mod ElementLaws
+pub mod FormLaws

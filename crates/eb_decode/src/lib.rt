@@ -1,42 +1,67 @@
-// A frame decoded straight into arrays of numbers, which the C interface hands out. A refused frame gives the arrays of the blank record.
+// The decoder: from the bytes of a frame and the offsets that the walk noted to the record, in the form without enums. One test in front
+// says whether the noted elements lie inside the frame; behind it everything is read without a test.
 ghost use mathlib.Core.Path.{_≡_};
-ghost use Rattle.eb_read_spec.specs.Read.{readFrame};
-ghost use Rattle.eb_decode.specs.Arrays.{arraysOf};
-use refusal::DONE;
+ghost use mathlib.Core.Bool.{true};
+ghost use Rattle.eb_record_spec.specs.Record.{blankBeacon};
+ghost use Rattle.eb_record_spec.specs.Form.{formOf, isBeacon};
+ghost use Rattle.eb_read_spec.specs.Form.{decodedForm};
+use eb_record_spec::BeaconForm;
+use eb_record_spec::Slotframe;
+use eb_record_spec::Synchronization;
+use eb_record_spec::TimeslotTemplate;
+use ie_walk_spec::Walk;
 
-mod arrays;
+mod elements;
 mod fixed;
-mod numbers;
+mod header;
+pub mod inside;
 
-// The number of a frame, and its record as arrays.
-pub struct FrameArrays {
-    pub number: u8,
-    pub numbers: [u64; 21],
-    pub timings: [u32; 12],
-    pub links: [u16; 48],
-    pub network: [u8; 16],
+// The form of the blank record.
+pub fn blank_form() -> BeaconForm
+    ensures { λ r. ⌜ r ≡ formOf blankBeacon ⌝ }
+{
+    BeaconForm {
+        sequenced: false,
+        sequence: 0,
+        pan: 0,
+        extended: false,
+        source: 0,
+        synchronization: Synchronization { asn: 0, metric: 0 },
+        timeslot: TimeslotTemplate {
+            id: 0,
+            timed: false,
+            timings: [0u32; 12],
+        },
+        hopping: 0,
+        slotframe: Slotframe {
+            handle: 0,
+            size: 0,
+            count: 0,
+            links: [eb_record_spec::blank_link(); 16],
+        },
+        joining: eb_record_spec::blank_joining(),
+    }
 }
 
-// Reads a frame into arrays.
-pub fn arrays_of(s: &[u8]) -> FrameArrays
-    ensures { λ r. ⌜ r ≡ arraysOf (readFrame (now (s .entry))) ⌝ }
+// The record at the offsets of a walk, and the blank one if an element does not lie inside the frame.
+pub fn decode(s: &[u8], walk: Walk) -> BeaconForm
+    ensures answer { λ r. ⌜ r ≡ decodedForm (now (s .entry)) walk ⌝ }
+    ensures record { λ r. ⌜ isBeacon r ≡ true ⌝ }
 {
-    let found = eb_examine::examine(s);
-    if found.number != DONE {
-        return FrameArrays {
-            number: found.number,
-            numbers: [0u64; 21],
-            timings: [0u32; 12],
-            links: [0u16; 48],
-            network: [0u8; 16],
+    if inside::is_inside(s, walk) {
+        let header = header::header_at(s);
+        return BeaconForm {
+            sequenced: header.sequenced,
+            sequence: header.sequence,
+            pan: header.pan,
+            extended: header.extended,
+            source: header.source,
+            synchronization: elements::synchronization_at(s, walk.synchronization),
+            timeslot: elements::template_at(s, walk.timeslot, walk.timeslotend),
+            hopping: fixed::byte(s, walk.hopping) as u8,
+            slotframe: elements::slotframe_at(s, walk.slotframe),
+            joining: elements::joining_at(s, walk.joining, walk.joiningend),
         };
     }
-    let w = found.walk;
-    FrameArrays {
-        number: DONE,
-        numbers: numbers::numbers_at(s, w),
-        timings: arrays::timings_at(s, w.timeslot, w.timeslotend),
-        links: arrays::links_at(s, w.slotframe),
-        network: arrays::network_at(s, w.joining, w.joiningend),
-    }
+    blank_form()
 }

@@ -1,23 +1,11 @@
-// Reading a beacon: its number and its record.
+// Reading a beacon: its number and its record, and its network ID as a part of the frame.
 ghost use mathlib.Core.Path.{_≡_};
-ghost use Rattle.eb_decode_spec.specs.Decode.{decoded};
 ghost use Rattle.eb_read_spec.specs.Read.{readFrame};
 ghost use Rattle.eb_read_spec.specs.Claims.{NumbersTo8, OneIsTheLength, AcceptedMayBeDecidedOn};
 pub use eb_read_spec::ReadAnswer;
-use ie_walk_spec::Walk;
 use refusal::DONE;
 
-pub mod decode_frame;
-
-// The answer to a frame in which nothing is wrong.
-fn accepted(s: &[u8], w: Walk) -> ReadAnswer
-    ensures { λ r. ⌜ r ≡ record { number = 0; beacon = decoded (now (s .entry)) w } ⌝ }
-{
-    ReadAnswer {
-        number: DONE,
-        beacon: crate::decode_frame::decode(s, w),
-    }
-}
+pub mod network;
 
 // Reads a frame.
 pub fn read(s: &[u8]) -> ReadAnswer
@@ -33,6 +21,9 @@ pub fn read(s: &[u8]) -> ReadAnswer
             beacon: eb_record_spec::blank(),
         };
     }
-    let w = found.walk;
-    accepted(s, w)
+    let walk = found.walk;
+    ReadAnswer {
+        number: DONE,
+        beacon: eb_record::beacon_of(eb_decode::decode(s, walk)),
+    }
 }

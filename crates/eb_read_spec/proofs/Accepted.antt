@@ -9,14 +9,15 @@ use lib.ListN.{length, getD}
 use Rattle.octets_spec.proofs.ChoiceLaws.{if-eq, was-ne}
 use Rattle.eb_record_spec.specs.Record.{blankLink}
 use Rattle.ie_walk_spec.specs.declared.Walk.{Walk}
-use Rattle.eb_decode_spec.specs.Decode.{synchronizationAt, linkAt, slotframeAt, decoded}
+use Rattle.eb_read_spec.specs.Decode.{synchronizationAt, linkAt, slotframeAt, decoded}
 use Rattle.eb_read_spec.specs.Read.{missing, walkNumber, examined, readFrame}
 use Rattle.eb_read_spec.specs.Claims.{AcceptedMayBeDecidedOn}
-use Rattle.eb_read_spec.specs.Inside.{TimeslotLength, JoiningInside, AcceptedLiesInside}
+use Rattle.eb_read_spec.specs.Inside.{TimeslotLength, JoiningInside, ElementsInside, AcceptedLiesInside}
 use Rattle.eb_read_spec.specs.declared.Examination.{Examination}
 use Rattle.eb_read_spec.specs.declared.ReadAnswer.{ReadAnswer}
 use Rattle.eb_read_spec.proofs.Claimed.{number-of}
 use Rattle.eb_read_spec.proofs.Each.{each-eq}
+use Rattle.eb_read_spec.proofs.InsideLaws.{facts-inside}
 use Rattle.eb_read_spec.proofs.Noted.{twice, SlotframePassed, TimeslotPassed, JoiningPassed, examined-noted}
 use Rattle.eb_read_spec.proofs.Bounds.{le-below, padded-at, fit-below}
 
@@ -74,8 +75,8 @@ timeslot-length s at to h = ⊎-elim (λ long. inl long) (λ k. ⊎-elim (λ lon
 joining-inside : (s : List ℕ) (at to : ℕ) → JoiningPassed s at to → to ≤ length s → JoiningInside s at to
 joining-inside s at to h k = record { least = omega (arith, h .least); most = omega (arith, h .most); inside = k }
 
-pub accepted-lies-inside : AcceptedLiesInside
-accepted-lies-inside s e =
+accepted-inside : (s : List ℕ) → examined s .number ≡ 0 → ElementsInside s (examined s .walk)
+accepted-inside s e =
     let w = examined s .walk in
     let noted = examined-noted s in
     let there = examined-required s e in
@@ -88,3 +89,6 @@ accepted-lies-inside s e =
       few = noted .slotframe (there .slotframe) .few;
       joining = λ some. joining-inside s _ _ (noted .joining some) (noted .joiningEnd some);
     }
+
+pub accepted-lies-inside : AcceptedLiesInside
+accepted-lies-inside s e = facts-inside s _ (accepted-inside s e)

@@ -1,9 +1,13 @@
+pub mod DecodeLaws
 pub mod Numbers
 pub mod ReadLaws
 pub mod Claimed
 pub mod Each
+pub mod InsideLaws
 pub mod Within
 pub mod Noted
 pub mod Bounds
 pub mod Accepted
+pub mod FormReadLaws
+pub mod NetworkLaws
 pub mod Witnessed

@@ -14,7 +14,7 @@ use Rattle.mac_header_spec.specs.declared.FieldOffsets.{FieldOffsets}
 use Rattle.ie_walk_spec.specs.Walk.{headerList, payloadList}
 use Rattle.ie_walk_spec.specs.declared.Walk.{Walk}
 use Rattle.ie_walk_spec.specs.declared.Headed.{Headed}
-use Rattle.eb_decode_spec.specs.Decode.{decoded}
+use Rattle.eb_read_spec.specs.Decode.{decoded}
 use Rattle.eb_read_spec.specs.Read.{headedWalk, blankWalk, elementsWalk, missing, walkNumber, elementsOffset, examined, readFrame}
 use Rattle.eb_read_spec.specs.declared.Examination.{Examination}
 use Rattle.eb_read_spec.proofs.Numbers.{at-most-8, elements-small}

@@ -1,4 +1,7 @@
+pub mod Decode
 pub mod Read
+pub mod Form
 pub mod Claims
 pub mod Inside
+pub mod Network
 pub mod Witnesses

@@ -10,7 +10,7 @@ use Rattle.mac_header_spec.specs.Control.{controlOf, offsetsOf, macHeaderFault}
 use Rattle.ie_walk_spec.specs.Walk.{headerList, payloadList}
 use Rattle.ie_walk_spec.specs.declared.Walk.{Walk}
 use Rattle.ie_walk_spec.specs.declared.Headed.{Headed}
-use Rattle.eb_decode_spec.specs.Decode.{decoded}
+use Rattle.eb_read_spec.specs.Decode.{decoded}
 use Rattle.eb_read_spec.specs.declared.Examination.{Examination}
 use Rattle.eb_read_spec.specs.declared.ReadAnswer.{ReadAnswer}
 

@@ -1,10 +1,22 @@
-// What reading a frame gives: its number, its record, and where its elements are. Definitions (specs/Read.antt) and theorems about every
-// list of bytes (specs/Claims.antt, specs/Inside.antt).
+// What reading a frame gives: its number, its record, and where its elements are. Definitions (specs/) of each field from its bytes
+// (Decode), of the checks (Read), of the form without enums (Form) and of the network ID (Network), and theorems about every list of
+// bytes (Claims, Inside, Network).
 ghost use Rattle.eb_read_spec.specs.Claims.{NumbersTo8, OneIsTheLength, AcceptedMayBeDecidedOn};
 ghost use Rattle.eb_read_spec.specs.Inside.{AcceptedLiesInside};
+ghost use Rattle.eb_read_spec.specs.Network.{NetworkLiesInside};
 ghost use Rattle.eb_read_spec.specs.Witnesses.{ShortestIsRead, SomeFrameIsAccepted, SomeFrameHasJoiningInformation, EachNumberIsGiven};
+use eb_record_spec::Address;
 use eb_record_spec::Beacon;
+use eb_record_spec::BeaconForm;
+use eb_record_spec::SequenceNumber;
 use ie_walk_spec::Walk;
+
+// What stands before the elements.
+pub struct MacHeader {
+    pub sequence: SequenceNumber,
+    pub pan: u16,
+    pub source: Address,
+}
 
 // The number of a frame and what the walk over it noted.
 pub struct Examination {
@@ -18,12 +30,27 @@ pub struct ReadAnswer {
     pub beacon: Beacon,
 }
 
+// The same without enums, as C has it.
+#[repr(C)]
+pub struct FormReading {
+    pub number: u8,
+    pub beacon: BeaconForm,
+}
+
+// A part of the bytes of a frame: where it starts and how many bytes it has.
+#[repr(C)]
+pub struct Span {
+    pub offset: usize,
+    pub length: usize,
+}
+
 // Cites each theorem, so that the gate fails if the proof of one goes.
 pub fn theorems()
     ensures numbers_to_8 { λ _. ⌜ NumbersTo8 ⌝ }
     ensures one_is_the_length { λ _. ⌜ OneIsTheLength ⌝ }
     ensures accepted_may_be_decided_on { λ _. ⌜ AcceptedMayBeDecidedOn ⌝ }
     ensures accepted_lies_inside { λ _. ⌜ AcceptedLiesInside ⌝ }
+    ensures network_lies_inside { λ _. ⌜ NetworkLiesInside ⌝ }
     ensures shortest_is_read { λ _. ⌜ ShortestIsRead ⌝ }
     ensures some_frame_is_accepted { λ _. ⌜ SomeFrameIsAccepted ⌝ }
     ensures some_frame_has_joining_information { λ _. ⌜ SomeFrameHasJoiningInformation ⌝ }

@@ -72,7 +72,7 @@ pub form-fits : (beacon : Beacon) → sourceFits (beacon .source) ≡ true → i
 unfolding isBeacon formOf
 form-fits beacon fits = rw (sequence-tested (beacon .sequence), source-tested (beacon .source) fits)
 
-form-back : (beacon : Beacon) → isBeacon (formOf beacon) ≡ true → beaconOf (formOf beacon) ≡ beacon
+pub form-back : (beacon : Beacon) → isBeacon (formOf beacon) ≡ true → beaconOf (formOf beacon) ≡ beacon
 unfolding isBeacon formOf beaconOf
 form-back beacon is =
     let source = both (sequenceTest (isSequenced (beacon .sequence)) (sequenceNumber (beacon .sequence))) (sourceTest (isExtended (beacon .source)) (addressNumber (beacon .source))) is .1 in

@@ -17,8 +17,8 @@ use Rattle.ie_walk_spec.specs.Walk.{seenOf, taken, OuterIs}
 use Rattle.ie_walk_spec.specs.declared.Walk.{Walk}
 use Rattle.ie_walk_spec.specs.declared.Headed.{Headed}
 use Rattle.ie_walk_spec.proofs.ListLaws.{header-start, header-payload, outer-start, outer-none, joining-turn, payload-is}
-use Rattle.eb_decode_spec.specs.Decode.{joiningAt}
-use Rattle.eb_decode_spec.proofs.DecodeLaws.{joining-none}
+use Rattle.eb_read_spec.specs.Decode.{joiningAt}
+use Rattle.eb_read_spec.proofs.DecodeLaws.{joining-none}
 use Rattle.eb_read_spec.specs.Read.{headedWalk, blankWalk, elementsWalk, missing}
 use Rattle.eb_read_spec.proofs.ReadLaws.{header-and-payload}
 use Rattle.eb_write_spec.specs.Frame.{headerDescriptor, joiningSize, joiningBytes, beaconGroupSize, beaconGroup}

@@ -15,7 +15,7 @@ use Rattle.ie_step_spec.proofs.StepLaws.{inner-end}
 use Rattle.ie_walk_spec.specs.Walk.{seenOf, taken, OuterIs}
 use Rattle.ie_walk_spec.specs.declared.Walk.{Walk}
 use Rattle.ie_walk_spec.proofs.ListLaws.{outer-start, outer-enter, GroupLeads, group-start, group-back}
-use Rattle.eb_decode_spec.specs.Decode.{synchronizationAt, templateAt, slotframeAt}
+use Rattle.eb_read_spec.specs.Decode.{synchronizationAt, templateAt, slotframeAt}
 use Rattle.eb_read_spec.specs.Read.{headedWalk, blankWalk, missing}
 use Rattle.eb_write_spec.specs.Frame.{synchronizationBytes, templateSize, templateBytes, hoppingBytes, slotframeBytes, groupSize, groupBytes, beaconGroupSize, beaconGroup}
 use Rattle.eb_write_spec.proofs.LengthLaws.{length-synchronization, length-template, length-hopping}

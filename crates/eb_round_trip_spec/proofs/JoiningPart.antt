@@ -15,8 +15,8 @@ use Rattle.ie_step_spec.specs.Payload.{groupOf, outerAt}
 use Rattle.ie_step_spec.specs.declared.OuterStep.the-variants as outer
 use Rattle.ie_verdict_spec.specs.Verdict.{onceOnly, joiningFault, partFault}
 use Rattle.ie_verdict_spec.specs.declared.Seen.{Seen}
-use Rattle.eb_decode_spec.specs.Decode.{networkOffset, joiningAt}
-use Rattle.eb_decode_spec.proofs.DecodeLaws.{network-from, joining-is}
+use Rattle.eb_read_spec.specs.Decode.{networkOffset, joiningAt}
+use Rattle.eb_read_spec.proofs.DecodeLaws.{network-from, joining-is}
 use Rattle.eb_write_spec.specs.Frame.{groupDescriptor, flag, joiningWord, joiningSize, joiningBytes}
 use Rattle.eb_round_trip_spec.proofs.Stands.{Stands, stands-at, stands-byte, le-here, be-here, be-byte, byte-is}
 use Rattle.eb_round_trip_spec.proofs.Rows.{padded-is}

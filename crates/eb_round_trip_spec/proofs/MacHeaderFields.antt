@@ -18,9 +18,9 @@ use Rattle.mac_header_spec.specs.Control.{controlOf, formFault, addressLength, 
 use Rattle.mac_header_spec.specs.declared.Control.{Control}
 use Rattle.mac_header_spec.specs.declared.FieldOffsets.{FieldOffsets}
 use Rattle.mac_header_spec.proofs.ControlLaws.{opened}
-use Rattle.eb_decode_spec.specs.Decode.{sequenceOf, sourceOf, macHeaderOf}
-use Rattle.eb_decode_spec.specs.declared.MacHeader.{MacHeader}
-use Rattle.eb_decode_spec.proofs.DecodeLaws.{some-sequence, no-sequence, extended, short, opens}
+use Rattle.eb_read_spec.specs.Decode.{sequenceOf, sourceOf, macHeaderOf}
+use Rattle.eb_read_spec.specs.declared.MacHeader.{MacHeader}
+use Rattle.eb_read_spec.proofs.DecodeLaws.{some-sequence, no-sequence, extended, short, opens}
 use Rattle.eb_read_spec.specs.Read.{elementsOffset}
 use Rattle.eb_read_spec.proofs.ReadLaws.{offsets-at}
 use Rattle.eb_write_spec.specs.Frame.{suppressedBit, sequenceBytes, sourceMode, sourceBytes, controlWord, macHeaderBytes, beaconMacHeader}

@@ -20,7 +20,7 @@ use Rattle.eb_record_spec.specs.declared.TimeslotTemplate.{TimeslotTemplate}
 use Rattle.eb_record_spec.specs.declared.JoiningInformation.{JoiningInformation}
 use Rattle.mac_header_spec.specs.Control.{controlOf, addressLength, offsetsOf}
 use Rattle.ie_walk_spec.specs.declared.Walk.{Walk}
-use Rattle.eb_decode_spec.specs.Decode.{sequenceOf, sourceOf, timingAt, templateAt, slotframeAt, networkOffset, joiningAt, macHeaderOf, decoded}
+use Rattle.eb_read_spec.specs.Decode.{sequenceOf, sourceOf, timingAt, templateAt, slotframeAt, networkOffset, joiningAt, macHeaderOf, decoded}
 use Rattle.eb_read_spec.specs.Read.{elementsOffset, examined, readFrame}
 use Rattle.eb_read_spec.specs.Claims.{Bytes}
 use Rattle.eb_read_spec.proofs.Each.{each-eq}

@@ -7,8 +7,8 @@ use lib.ListN.{length}
 use Rattle.octets_spec.specs.Choice.{ifOn}
 use Rattle.eb_record_spec.specs.declared.Beacon.{Beacon}
 use Rattle.ie_walk_spec.specs.declared.Walk.{Walk}
-use Rattle.eb_decode_spec.specs.Decode.{decoded}
-use Rattle.eb_decode_spec.proofs.DecodeLaws.{decodes}
+use Rattle.eb_read_spec.specs.Decode.{decoded}
+use Rattle.eb_read_spec.proofs.DecodeLaws.{decodes}
 use Rattle.eb_read_spec.specs.Read.{elementsWalk, examined, readFrame}
 use Rattle.eb_read_spec.specs.declared.Examination.{Examination}
 use Rattle.eb_read_spec.specs.declared.ReadAnswer.{ReadAnswer}

@@ -18,8 +18,8 @@ use Rattle.ie_step_spec.specs.Payload.{innerAt}
 use Rattle.ie_step_spec.specs.declared.InnerStep.the-variants as inner
 use Rattle.ie_verdict_spec.specs.Verdict.{slotframeShape, slotframeLimits, timeslotsFit, partFault}
 use Rattle.ie_verdict_spec.proofs.VerdictLaws.{frame-limits}
-use Rattle.eb_decode_spec.specs.Decode.{linkAt, slotframeAt}
-use Rattle.eb_decode_spec.proofs.DecodeLaws.{links-at, slotframe-is}
+use Rattle.eb_read_spec.specs.Decode.{linkAt, slotframeAt}
+use Rattle.eb_read_spec.proofs.DecodeLaws.{links-at, slotframe-is}
 use Rattle.eb_write_spec.specs.Frame.{linkBytes, linksBytes, slotframeBytes}
 use Rattle.eb_write_spec.proofs.LengthLaws.{length-le}
 use Rattle.eb_round_trip_spec.proofs.Stands.{Stands, le-here, le-first, le-last, byte-is}

@@ -11,8 +11,8 @@ use Rattle.eb_record_spec.specs.declared.Synchronization.{Synchronization}
 use Rattle.ie_step_spec.specs.Payload.{innerAt}
 use Rattle.ie_step_spec.specs.declared.InnerStep.the-variants as inner
 use Rattle.ie_verdict_spec.specs.Verdict.{onceOnly, syncFault, partFault}
-use Rattle.eb_decode_spec.specs.Decode.{synchronizationAt}
-use Rattle.eb_decode_spec.proofs.DecodeLaws.{synchronizes}
+use Rattle.eb_read_spec.specs.Decode.{synchronizationAt}
+use Rattle.eb_read_spec.proofs.DecodeLaws.{synchronizes}
 use Rattle.eb_write_spec.specs.Frame.{synchronizationBytes}
 use Rattle.eb_round_trip_spec.proofs.Stands.{Stands, le-here, le-last, byte-is}
 use Rattle.eb_round_trip_spec.proofs.Fitting.{SynchronizationWithin}

@@ -15,8 +15,8 @@ use Rattle.eb_record_spec.specs.declared.TimeslotTemplate.{TimeslotTemplate}
 use Rattle.ie_step_spec.specs.Payload.{innerAt}
 use Rattle.ie_step_spec.specs.declared.InnerStep.the-variants as inner
 use Rattle.ie_verdict_spec.specs.Verdict.{onceOnly, timeslotFault, partFault}
-use Rattle.eb_decode_spec.specs.Decode.{timingAt, templateAt}
-use Rattle.eb_decode_spec.proofs.DecodeLaws.{template-bare, template-timed}
+use Rattle.eb_read_spec.specs.Decode.{timingAt, templateAt}
+use Rattle.eb_read_spec.proofs.DecodeLaws.{template-bare, template-timed}
 use Rattle.eb_write_spec.specs.Frame.{numbersIn, lastWidth, timingsBytes, templateSize, templateBytes}
 use Rattle.eb_write_spec.specs.Limits.{allBelow}
 use Rattle.eb_write_spec.proofs.LengthLaws.{length-le, length-numbers}

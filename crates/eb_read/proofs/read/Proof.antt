@@ -1,8 +1,8 @@
 -- `eb_read::read` meets its contract. Assumes nothing.
 use Rattle.eb_read_spec.proofs.Claimed.{numbers-to-8, one-is-the-length}
 use Rattle.eb_read_spec.proofs.Accepted.{accepted-may-be-decided-on}
-use Rattle.eb_read_spec.proofs.ReadLaws.{read-refused, read-done}
-use mathlib.Core.Path.{refl, _∙_}
+use Rattle.eb_read_spec.proofs.ReadLaws.{read-refused}
+use Rattle.eb_read_spec.proofs.FormReadLaws.{read-record}
 use borrow.Author.Needs.{needs}
 use Rattle.eb_read.proofs.read.Statement.{statement}
 use Rattle.eb_read.proofs.read.Tie as tie
@@ -16,11 +16,16 @@ blank-requires c κs = search needs
 returns : tie.Need-returns
 returns c = (read-refused _ _ (c .before .before .before .examine .ensures .0) _ (search needs) (c .blank .ensures), (numbers-to-8, (one-is-the-length, accepted-may-be-decided-on)))
 
-accepted-requires : tie.Need-accepted-requires
-accepted-requires c κs = search needs
+decode-requires : tie.Need-decode-requires
+decode-requires c κs = search needs
+
+beacon-of-requires : tie.Need-beacon-of-requires
+beacon-of-requires c κs = search needs
 
 returns-2 : tie.Need-returns-2
-returns-2 c = (c .accepted .ensures ∙ read-done _ _ (c .before .before .before .before .examine .ensures .0) _ (search needs) refl, (numbers-to-8, (one-is-the-length, accepted-may-be-decided-on)))
+returns-2 c = (read-record _ _ (c .before .before .before .before .before .examine .ensures .0) (search needs) _ (c .before .decode .ensures .0) _ (c .before .decode .ensures .1) (c .beacon-of .ensures), (numbers-to-8, (one-is-the-length, accepted-may-be-decided-on)))
 
 pub read-spec : {M : Type 1} → statement M
-read-spec = tie.close (tie.spec examine-requires blank-requires returns accepted-requires returns-2)
+read-spec =
+    tie.close
+    (tie.spec examine-requires blank-requires returns decode-requires beacon-of-requires returns-2)

@@ -1,0 +1,51 @@
+// What stands before the elements of a frame, decoded without a branch on what a frame happens to hold.
+ghost use mathlib.Core.Path.{_≡_};
+ghost use mathlib.Core.Bool.{true, _&&_, _||_};
+ghost use Prim.Native.Nat.{_≤_, _<_, _^_};
+ghost use lib.Dec.{ltb, eqb};
+ghost use Rattle.octets_spec.specs.Choice.{ifEq};
+ghost use Rattle.octets_spec.specs.Number.{leAt};
+ghost use Rattle.eb_decode.specs.Header.{headerForm};
+use crate::fixed;
+
+// The sequence number, which is 0 where there is none, the PAN, and the source with its kind.
+pub(crate) struct HeaderForm {
+    pub sequenced: bool,
+    pub sequence: u8,
+    pub pan: u16,
+    pub extended: bool,
+    pub source: u64,
+}
+
+// The source address. A beacon has eight bytes there, whatever its mode is.
+fn source(s: &[u8], mode: u64, at: usize) -> u64
+    requires { ⌜ at ≤ 13 ⌝ }
+    ensures { λ r. ⌜ (r ≡ ifEq mode 3 (leAt 8 (now (s .entry)) at) (leAt 2 (now (s .entry)) at)) × ((mode ≡ 3 → ⊥) → r < 65536) ⌝ }
+{
+    if s.len() < 21 {
+        if mode == 3 {
+            return octets::get::le(s, at, 8);
+        }
+        return octets::get::le(s, at, 2);
+    }
+    let wide = fixed::le64(s, at);
+    fixed::choose(mode, 3, wide, wide % 0x1_0000)
+}
+
+// The sequence number, the PAN and the source of a frame. They are those of a record: no number where there is none, and no short source
+// over 16 bits.
+pub(crate) fn header_at(s: &[u8]) -> HeaderForm
+    ensures { λ r. ⌜ (r ≡ headerForm (now (s .entry))) × (((r .sequenced || eqb (r .sequence) 0) && (r .extended || ltb (r .source) (2 ^ 16))) ≡ true) ⌝ }
+{
+    let control = mac_header::control_of(octets::get::le(s, 0, 2));
+    let offsets = mac_header::offsets_of(control);
+    let pan = offsets.pan;
+    let at = offsets.source;
+    HeaderForm {
+        sequenced: control.suppressed == 0,
+        sequence: fixed::choose(control.suppressed, 0, octets::get::byte(s, 2), 0) as u8,
+        pan: octets::get::le(s, pan, 2) as u16,
+        extended: control.source == 3,
+        source: source(s, control.source, at),
+    }
+}

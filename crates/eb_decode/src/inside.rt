@@ -1,0 +1,95 @@
+// Whether the elements that a walk noted lie inside a frame, each with a length that its kind has.
+ghost use mathlib.Core.Path.{_≡_};
+ghost use Prim.Native.Nat.{_<_};
+ghost use Rattle.eb_read_spec.specs.Inside.{bytesInside, isTimeslotLength, timeslotInside, slotframeInside, isJoiningLength, joiningInside, liesInside};
+use ie_walk_spec::Walk;
+
+// Whether this many bytes from an offset on lie inside the frame.
+fn bytes_inside(s: &[u8], at: usize, size: usize) -> bool
+    ensures { λ r. ⌜ r ≡ bytesInside (now (s .entry)) at size ⌝ }
+{
+    if s.len() < at {
+        return false;
+    }
+    if s.len() - at < size {
+        return false;
+    }
+    true
+}
+
+fn is_timeslot_length(size: usize) -> bool
+    ensures { λ r. ⌜ r ≡ isTimeslotLength size ⌝ }
+{
+    if size == 25 {
+        return true;
+    }
+    if size == 27 {
+        return true;
+    }
+    if size == 1 {
+        return true;
+    }
+    false
+}
+
+fn timeslot_inside(s: &[u8], at: usize, to: usize) -> bool
+    ensures { λ r. ⌜ r ≡ timeslotInside (now (s .entry)) at to ⌝ }
+{
+    if s.len() < to {
+        return false;
+    }
+    is_timeslot_length(octets::span(at, to))
+}
+
+fn slotframe_inside(s: &[u8], at: usize) -> bool
+    ensures { λ r. ⌜ r ≡ slotframeInside (now (s .entry)) at ⌝ }
+{
+    if s.len() < at {
+        return false;
+    }
+    let links = octets::get::byte(s, at + 4) as usize;
+    if 16 < links {
+        return false;
+    }
+    bytes_inside(s, at, 5 + 5 * links)
+}
+
+fn is_joining_length(size: usize, proxied: u64) -> bool
+    requires { ⌜ proxied < 2 ⌝ }
+    ensures { λ r. ⌜ r ≡ isJoiningLength size proxied ⌝ }
+{
+    let least = 4 + 8 * proxied as usize;
+    if size < least {
+        return false;
+    }
+    if least + 16 < size {
+        return false;
+    }
+    true
+}
+
+fn joining_inside(s: &[u8], at: usize, to: usize) -> bool
+    ensures { λ r. ⌜ r ≡ joiningInside (now (s .entry)) at to ⌝ }
+{
+    if at == 0 {
+        return true;
+    }
+    if s.len() < to {
+        return false;
+    }
+    is_joining_length(
+        octets::span(at, to),
+        octets::get::byte(s, at) / 64 % 2,
+    )
+}
+
+// Whether all elements that a walk noted lie inside the frame.
+pub fn is_inside(s: &[u8], walk: Walk) -> bool
+    ensures { λ r. ⌜ r ≡ liesInside (now (s .entry)) walk ⌝ }
+{
+    bytes_inside(s, walk.synchronization, 6)
+        & (timeslot_inside(s, walk.timeslot, walk.timeslotend)
+            & (bytes_inside(s, walk.hopping, 1)
+                & (slotframe_inside(s, walk.slotframe)
+                    & joining_inside(s, walk.joining, walk.joiningend))))
+}

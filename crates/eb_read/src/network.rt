@@ -1,0 +1,65 @@
+// The network ID of a frame: where it lies, and the part of the frame that it is.
+ghost use mathlib.Core.Path.{_≡_};
+ghost use Prim.Native.Nat.{_≤_};
+ghost use Rattle.eb_read_spec.specs.Decode.{networkOffset};
+ghost use Rattle.eb_read_spec.specs.Network.{spanFrom, networkSpan, networkPart, NetworkLiesInside};
+use eb_read_spec::Span;
+use refusal::DONE;
+
+// The P flag of joining information, in its first four bytes: the address of the join proxy stands behind them.
+const PROXIED: u64 = 0x4000_0000;
+
+// How many bytes of joining information stand before its network ID.
+fn network_offset(s: &[u8], at: usize) -> usize
+    ensures { λ r. ⌜ (r ≡ networkOffset (now (s .entry)) at) × (r ≤ 12) ⌝ }
+{
+    4 + 8 * (octets::get::be(s, at, 4) / PROXIED % 2) as usize
+}
+
+fn span_from(from: usize, to: usize) -> Span
+    ensures { λ r. ⌜ r ≡ spanFrom from to ⌝ }
+{
+    if from < to {
+        return Span {
+            offset: from,
+            length: to - from,
+        };
+    }
+    Span {
+        offset: 0,
+        length: 0,
+    }
+}
+
+// Where the network ID of a frame lies: 0 and 0 if the frame is refused, or has none, or one of no bytes.
+pub fn network_span(s: &[u8]) -> Span
+    ensures answer { λ r. ⌜ r ≡ networkSpan (now (s .entry)) ⌝ }
+    ensures inside { λ _. ⌜ NetworkLiesInside ⌝ }
+{
+    let found = eb_examine::examine(s);
+    if found.number != DONE {
+        return Span {
+            offset: 0,
+            length: 0,
+        };
+    }
+    let walk = found.walk;
+    let at = walk.joining;
+    if at == 0 {
+        return Span {
+            offset: 0,
+            length: 0,
+        };
+    }
+    span_from(at + network_offset(s, at), walk.joiningend)
+}
+
+// The network ID of a frame, as a part of its bytes; the empty part at its start if the frame is refused or has none.
+pub fn network_id(s: &[u8]) -> &[u8]
+    ensures { λ r. ⌜ now r ≡ networkPart (now (s .entry)) ⌝ }
+{
+    let span = network_span(s);
+    let from = span.offset;
+    let to = from + span.length;
+    &s[from..to]
+}

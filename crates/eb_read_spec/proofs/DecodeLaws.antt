@@ -1,0 +1,154 @@
+-- The laws of decoding, in the shape in which the code meets them. Assumes nothing.
+use Prim.Native.Nat.{ℕ, _+_, _-_, _*_, _/_, _%_, _^_, _<_, _≤_, min}
+use mathlib.Core.Path.{_≡_, refl, sym, _∙_}
+use mathlib.Core.Bool.{true, false}
+use mathlib.Core.List.{List}
+use native.Mathlib.Nat.{pow-le-pow-right}
+use native.Mathlib.Omega.{arith}
+use mir.Syntax.{w32}
+use mir.Val.{Fits}
+use lib.Dec.{lit<, eqb}
+use lib.ListN.{length, getD, set, replicate, List·getD-eq-default}
+use Rattle.octets_spec.specs.Choice.{ifLt, ifEq}
+use Rattle.octets_spec.specs.Number.{leAt, beAt}
+use Rattle.octets_spec.specs.Counted.{counted, padded}
+use Rattle.octets_spec.proofs.ChoiceLaws.{if-lt, if-ge, if-eq, if-ne, choices}
+use Rattle.octets_spec.proofs.NumberLaws.{le-past, be-past, positive}
+use Rattle.octets_spec.proofs.CountedLaws.{filling}
+use Rattle.mac_header_spec.specs.Control.{controlOf, offsetsOf}
+use Rattle.mac_header_spec.specs.declared.Control.{Control}
+use Rattle.mac_header_spec.specs.declared.FieldOffsets.{FieldOffsets}
+use Rattle.ie_walk_spec.specs.declared.Walk.{Walk}
+use Rattle.eb_record_spec.specs.Record.{blankLink, blankJoining, blankBeacon}
+use Rattle.eb_record_spec.specs.declared.SequenceNumber.{SequenceNumber}
+use Rattle.eb_record_spec.specs.declared.Address.{Address}
+use Rattle.eb_record_spec.specs.declared.Synchronization.{Synchronization}
+use Rattle.eb_record_spec.specs.declared.TimeslotTemplate.{TimeslotTemplate}
+use Rattle.eb_record_spec.specs.declared.Slotframe.{Slotframe}
+use Rattle.eb_record_spec.specs.declared.JoiningInformation.{JoiningInformation}
+use Rattle.eb_record_spec.specs.declared.Beacon.{Beacon}
+use Rattle.eb_record_spec.specs.declared.SequenceNumber.the-variants.{Absent, Number}
+use Rattle.eb_record_spec.specs.declared.Address.the-variants.{Short, Extended}
+use Rattle.eb_record_spec.specs.declared.Link.{Link}
+use Rattle.eb_read_spec.specs.Decode.{sequenceOf, sourceOf, synchronizationAt, timingAt, templateAt, linkAt, slotframeAt, networkOffset, joiningAt, macHeaderOf, decoded}
+use Rattle.eb_read_spec.specs.declared.MacHeader.{MacHeader}
+
+-- ---- past the end
+module _ (s : List ℕ) (at k : ℕ) (past : length s ≤ at) where
+  pub byte-past-k : 0 ≡ getD s (at + k) 0
+  byte-past-k = sym (List·getD-eq-default s 0 (omega arith))
+
+  pub le-past-k : (width : ℕ) → 0 ≡ leAt width s (at + k)
+  le-past-k width = le-past s width (at + k) (omega arith)
+
+  pub be-past-k : (width : ℕ) → 0 ≡ beAt width s (at + k)
+  be-past-k width = be-past s width (at + k) (omega arith)
+
+-- ---- fields
+module _ (s : List ℕ) where
+  pub some-sequence : (suppressed n : ℕ) → suppressed ≡ 0 → n ≡ getD s 2 0 → Number n ≡ sequenceOf s suppressed
+  unfolding sequenceOf
+  some-sequence suppressed n h e = if-eq _ _ suppressed 0 h (rw e)
+
+  pub no-sequence : (suppressed : ℕ) → (suppressed ≡ 0 → ⊥) → Absent ≡ sequenceOf s suppressed
+  unfolding sequenceOf
+  no-sequence suppressed h = if-ne _ _ suppressed 0 h refl
+
+  module _ (mode at n : ℕ) where
+    pub extended : mode ≡ 3 → n ≡ leAt 8 s at → Extended n ≡ sourceOf s mode at
+    unfolding sourceOf
+    extended h e = if-eq _ _ mode 3 h (rw e)
+
+    pub short : (mode ≡ 3 → ⊥) → n ≡ leAt 2 s at → Short n ≡ sourceOf s mode at
+    unfolding sourceOf
+    short h e = if-ne _ _ mode 3 h (rw e)
+
+  pub synchronizes : (at asn metric : ℕ) → asn ≡ leAt 5 s at → metric ≡ getD s (at + 5) 0 → record { asn = asn; metric = metric } ≡ synchronizationAt s at
+  unfolding synchronizationAt
+  synchronizes at asn metric e f = rw (e, f)
+
+  -- ---- timings
+  module _ (at width k r : ℕ) where
+    pub timing-two : k < 10 → r ≡ leAt 2 s (at + (1 + 2 * k)) → r ≡ timingAt s at width k
+    unfolding timingAt
+    timing-two h e = if-lt _ _ k 10 h e
+
+    module _ (after : 10 ≤ k) (narrow : width ≤ 3) where
+      same : min width 8 ≡ width
+      same = omega arith
+
+      pub timing-ten : k ≡ 10 → r ≡ leAt (min width 8) s (at + 21) → r ≡ timingAt s at width k
+      unfolding timingAt
+      timing-ten h e = if-ge _ _ k 10 after (if-eq _ _ k 10 h (rw same at e))
+
+      pub timing-eleven : (k ≡ 10 → ⊥) → r ≡ leAt (min width 8) s (at + (21 + width)) → r ≡ timingAt s at width k
+      unfolding timingAt
+      timing-eleven h e = if-ge _ _ k 10 after (if-ne _ _ k 10 h (rw same at e))
+
+  -- ---- elements
+  module _ (at id : ℕ) (i : id ≡ getD s at 0) where
+    pub template-bare : (length : ℕ) → length ≡ 1 → record { id = id; timed = false; timings = replicate 12 0 } ≡ templateAt s at length
+    unfolding templateAt
+    template-bare length h = if-eq _ _ length 1 h (rw i)
+
+    pub template-timed : (length width : ℕ) (all : List ℕ) → (length ≡ 1 → ⊥) → width ≡ ifEq length 27 3 2 → all ≡ counted (timingAt s at width) 12 → record { id = id; timed = true; timings = all } ≡ templateAt s at length
+    unfolding templateAt
+    template-timed length width all h e f = if-ne _ _ length 1 h (rw (i, f, e))
+
+  pub links-at : (at i timeslot offset options : ℕ) → timeslot ≡ leAt 2 s (at + (5 + 5 * i)) → offset ≡ leAt 2 s (at + (7 + 5 * i)) → options ≡ getD s (at + (9 + 5 * i)) 0
+      → record { timeslot = timeslot; «channel_offset» = offset; options = options } ≡ linkAt s at i
+  unfolding linkAt
+  links-at at i timeslot offset options e f g = rw (e, f, g)
+
+  pub slotframe-is : (at handle size count : ℕ) (all : List Link) → count ≡ getD s (at + 4) 0 → handle ≡ getD s (at + 1) 0 → size ≡ leAt 2 s (at + 2) → all ≡ padded (linkAt s at) blankLink 16 count
+      → record { handle = handle; size = size; count = count; links = all } ≡ slotframeAt s at
+  unfolding slotframeAt
+  slotframe-is at handle size count all e f g h = rw (f, g, h, e)
+
+  -- ---- joining information
+  module _ (at word : ℕ) (w : word ≡ beAt 4 s at) where
+    pub network-from : 4 + 8 * (word / 1073741824 % 2) ≡ networkOffset s at
+    unfolding networkOffset
+    network-from = rw w
+
+  module _ (at to : ℕ) where
+    pub joining-none : (b : Beacon) → b ≡ blankBeacon → at ≡ 0 → b .joining ≡ joiningAt s at to
+    unfolding joiningAt
+    joining-none b e h = if-eq _ _ at 0 h (rw e)
+
+    pub joining-absent : (j : JoiningInformation) → j ≡ blankJoining → at ≡ 0 → j ≡ joiningAt s at to
+    joining-absent j e h = e ∙ joining-none blankBeacon refl h
+
+    pub joining-is : (word skip length address : ℕ) (all : List ℕ) → (at ≡ 0 → ⊥) → word ≡ beAt 4 s at → skip ≡ networkOffset s at → length ≡ min (to - at - skip) 16
+        → address ≡ ifEq (word / 1073741824 % 2) 1 (beAt 8 s (at + 4)) 0 → all ≡ padded (λ i. getD s (at + (skip + i)) 0) 0 16 length
+        → record {
+          present = true;
+          router = eqb (word / 2147483648 % 2) 1;
+          proxied = eqb (word / 1073741824 % 2) 1;
+          proxy = word / 1048576 % 128;
+          rank = word / 256 % 4096;
+          pan = word % 256;
+          address = address;
+          length = length;
+          network = all;
+        } ≡ joiningAt s at to
+    unfolding joiningAt
+    joining-is word skip length address all h e f g k m = if-ne _ _ at 0 h (rw (k, m, g, f, e))
+
+  -- ---- the whole
+  pub opens : (word pan : ℕ) (control : Control) (offsets : FieldOffsets) (sequence : SequenceNumber) (source : Address) → word ≡ leAt 2 s 0 → control ≡ controlOf word → offsets ≡ offsetsOf control
+      → sequence ≡ sequenceOf s (control .suppressed) → pan ≡ leAt 2 s (offsets .pan) → source ≡ sourceOf s (control .source) (offsets .source)
+      → record { sequence = sequence; pan = pan; source = source } ≡ macHeaderOf s
+  unfolding macHeaderOf
+  opens word pan control offsets sequence source e f g h k m = rw (h, k, m, g, f, e)
+
+  pub decodes : (w : Walk) (o : MacHeader) (y : Synchronization) (t : TimeslotTemplate) (length hopping : ℕ) (f : Slotframe) (j : JoiningInformation) → o ≡ macHeaderOf s → y ≡ synchronizationAt s (w .synchronization)
+      → length ≡ w .timeslotend - w .timeslot → t ≡ templateAt s (w .timeslot) length → hopping ≡ getD s (w .hopping) 0 → f ≡ slotframeAt s (w .slotframe) → j ≡ joiningAt s (w .joining) (w .joiningend)
+      → record { sequence = o .sequence; pan = o .pan; source = o .source; synchronization = y; timeslot = t; hopping = hopping; slotframe = f; joining = j } ≡ decoded s w
+  unfolding decoded
+  decodes w o y t length hopping f j a b c d e g h = rw (a, b, d, c, e, g, h)
+
+pub narrows : (n width : ℕ) → n < 256 ^ min width 8 → width ≤ 3 → Fits w32 n
+narrows n width small narrow = record { fits = omega (arith, pow-le-pow-right {n = 256} (lit< tt) {i = min width 8} {j = 3} (omega arith)) }
+
+pub ruleset decoding = (choices, filling, positive, byte-past-k, le-past-k, be-past-k, some-sequence, no-sequence, extended, short, synchronizes, timing-two, timing-ten, timing-eleven, template-bare, template-timed, links-at, slotframe-is, network-from, joining-absent, joining-is, opens, decodes, narrows)

@@ -1,0 +1,157 @@
+-- The laws of elements that lie inside a frame: the test and the facts say the same, and each way out of the test as code meets it.
+-- Assumes nothing.
+use Prim.Native.Nat.{ℕ, _+_, _-_, _*_, _/_, _%_, _<_, _≤_}
+use mathlib.Core.Path.{_≡_, refl, sym, _∙_, subst}
+use mathlib.Core.Bool.{Bool, true, false, _&&_}
+use mathlib.Core.List.{List}
+use mathlib.Core.Logic.{inl, inr}
+use native.Mathlib.Omega.{arith}
+use lib.Dec.{T}
+use lib.ListN.{length, getD}
+use Rattle.octets_spec.specs.Choice.{ifLt, ifEq}
+use Rattle.octets_spec.proofs.ChoiceLaws.{if-lt, if-ge, if-eq, if-ne, was-ge, was-eq, either-lt, choices}
+use Rattle.ie_walk_spec.specs.declared.Walk.{Walk}
+use Rattle.eb_read_spec.specs.Inside.{bytesInside, isTimeslotLength, timeslotInside, slotframeInside, isJoiningLength, joiningInside, liesInside, TimeslotLength, JoiningInside, ElementsInside}
+use Rattle.eb_read_spec.proofs.Each.{each-eq}
+
+no : false ≡ true → ⊥
+no e = subst T (sym e) tt
+
+both : (a b : Bool) → a && b ≡ true → (a ≡ true) × (b ≡ true)
+both true b e = (refl, e)
+both false b e = absurd (no e)
+
+-- ---- from the test to the facts
+bytes-fit : (s : List ℕ) (at size : ℕ) → bytesInside s at size ≡ true → at + size ≤ length s
+unfolding bytesInside
+bytes-fit s at size e = was-ge _ _ _ _ _ e no .0
+
+timeslot-fits : (s : List ℕ) (at to : ℕ) → timeslotInside s at to ≡ true → (to ≤ length s) × TimeslotLength (to - at)
+unfolding timeslotInside isTimeslotLength
+timeslot-fits s at to e =
+    let P : Bool → Type 0 = λ r. r ≡ true → TimeslotLength (to - at) in
+    let ends = was-ge _ _ _ _ _ e no in
+    (ends .0, each-eq P _ _ _ _ (λ long f. inl long) (λ not-25. each-eq P _ _ _ _ (λ long f. inr (inl long)) (λ not-27 f. inr (inr (was-eq _ _ _ _ _ f no .0)))) (ends .1))
+
+slotframe-fits : (s : List ℕ) (at : ℕ) → slotframeInside s at ≡ true → (getD s (at + 4) 0 ≤ 16) × (at + (5 + 5 * getD s (at + 4) 0) ≤ length s)
+unfolding slotframeInside
+slotframe-fits s at e = let few = was-ge _ _ _ _ _ e no in (few .0, bytes-fit s at _ (few .1))
+
+joining-fits : (s : List ℕ) (at to : ℕ) → joiningInside s at to ≡ true → (at ≡ 0 → ⊥) → JoiningInside s at to
+unfolding joiningInside isJoiningLength
+joining-fits s at to =
+    each-eq (λ (r : Bool). r ≡ true → (at ≡ 0 → ⊥) → JoiningInside s at to) _ _ _ _ (λ none e some. absurd (some none))
+    (λ there e some.
+    let ends = was-ge _ _ _ _ _ e no in
+    let least = was-ge _ _ _ _ _ (ends .1) no in
+    let most = was-ge _ _ _ _ _ (least .1) no in
+    record { least = omega (arith, least .0); most = omega (arith, most .0); inside = ends .0 })
+
+module _ (s : List ℕ) (walk : Walk) where
+  pub inside-facts : liesInside s walk ≡ true → ElementsInside s walk
+  unfolding liesInside
+  inside-facts e =
+      let synchronization = both (bytesInside s (walk .synchronization) 6) _ e in
+      let timeslot = both (timeslotInside s (walk .timeslot) (walk .timeslotend)) _ (synchronization .1) in
+      let hopping = both (bytesInside s (walk .hopping) 1) _ (timeslot .1) in
+      let slotframe = both (slotframeInside s (walk .slotframe)) _ (hopping .1) in
+      let template = timeslot-fits s (walk .timeslot) (walk .timeslotend) (timeslot .0) in
+      let links = slotframe-fits s (walk .slotframe) (slotframe .0) in
+      record {
+        synchronization = bytes-fit s (walk .synchronization) 6 (synchronization .0);
+        timeslot = template .1;
+        timeslotend = template .0;
+        hopping = omega (arith, bytes-fit s (walk .hopping) 1 (hopping .0));
+        slotframe = links .1;
+        few = links .0;
+        joining = joining-fits s (walk .joining) (walk .joiningend) (slotframe .1);
+      }
+
+-- ---- from the facts to the test
+fits-bytes : (s : List ℕ) (at size : ℕ) → at + size ≤ length s → bytesInside s at size ≡ true
+unfolding bytesInside
+fits-bytes s at size h = sym (if-ge _ _ _ _ h refl)
+
+long-enough : (n : ℕ) → TimeslotLength n → isTimeslotLength n ≡ true
+unfolding isTimeslotLength ifEq
+long-enough n (inl e) = rw e refl
+long-enough n (inr (inl e)) = rw e refl
+long-enough n (inr (inr e)) = rw e refl
+
+fits-timeslot : (s : List ℕ) (at to : ℕ) → to ≤ length s → TimeslotLength (to - at) → timeslotInside s at to ≡ true
+unfolding timeslotInside
+fits-timeslot s at to h long = sym (if-ge _ _ _ _ h (sym (long-enough _ long)))
+
+fits-slotframe : (s : List ℕ) (at : ℕ) → getD s (at + 4) 0 ≤ 16 → at + (5 + 5 * getD s (at + 4) 0) ≤ length s → slotframeInside s at ≡ true
+unfolding slotframeInside
+fits-slotframe s at few h = sym (if-ge _ _ _ _ few (sym (fits-bytes s at _ h)))
+
+fits-joining : (s : List ℕ) (at to : ℕ) → ((at ≡ 0 → ⊥) → JoiningInside s at to) → joiningInside s at to ≡ true
+unfolding joiningInside isJoiningLength
+fits-joining s at to h =
+    each-eq (λ (r : Bool). r ≡ true) _ _ _ _ (λ none. refl)
+    (λ some. let j = h some in sym (if-ge _ _ _ _ (j .inside) (if-ge _ _ _ _ (omega (arith, j .least)) (if-ge _ _ _ _ (omega (arith, j .most)) refl))))
+
+pub facts-inside : (s : List ℕ) (walk : Walk) → ElementsInside s walk → liesInside s walk ≡ true
+unfolding liesInside
+facts-inside s walk h =
+    rw (fits-bytes s (walk .synchronization) 6 (h .synchronization), fits-timeslot s (walk .timeslot) (walk .timeslotend) (h .timeslotend) (h .timeslot), fits-bytes s (walk .hopping) 1 (omega (arith, h .hopping)), fits-slotframe s (walk .slotframe) (h .few) (h .slotframe), fits-joining s (walk .joining) (walk .joiningend) (h .joining)) refl
+
+-- ---- the ways out of the test
+module _ (s : List ℕ) (at size : ℕ) where
+  pub starts-behind : length s < at → false ≡ bytesInside s at size
+  unfolding bytesInside
+  starts-behind h = if-lt _ _ _ _ (omega arith) refl
+
+  pub ends-behind : at ≤ length s → length s - at < size → false ≡ bytesInside s at size
+  unfolding bytesInside
+  ends-behind h k = if-lt _ _ _ _ (omega arith) refl
+
+  pub ends-inside : at ≤ length s → size ≤ length s - at → true ≡ bytesInside s at size
+  unfolding bytesInside
+  ends-inside h k = if-ge _ _ _ _ (omega arith) refl
+
+module _ (s : List ℕ) (at : ℕ) where
+  pub slotframe-behind : length s < at → false ≡ slotframeInside s at
+  unfolding slotframeInside
+  slotframe-behind h = either-lt (λ (r : Bool). false ≡ r) _ _ refl (starts-behind s at _ h) _ _
+
+  module _ (links : ℕ) (e : links ≡ getD s (at + 4) 0) where
+    pub links-many : 16 < links → false ≡ slotframeInside s at
+    unfolding slotframeInside
+    links-many h = if-lt _ _ _ _ (omega arith) refl
+
+    pub links-few : (r : Bool) → links ≤ 16 → r ≡ bytesInside s at (5 + 5 * links) → r ≡ slotframeInside s at
+    unfolding slotframeInside
+    links-few r h f = if-ge _ _ _ _ (omega arith) (rw e at f)
+
+module _ (s : List ℕ) (at to : ℕ) where
+  pub timeslot-behind : length s < to → false ≡ timeslotInside s at to
+  unfolding timeslotInside
+  timeslot-behind h = if-lt _ _ _ _ h refl
+
+  pub timeslot-there : (size : ℕ) (r : Bool) → to ≤ length s → size ≡ to - at → r ≡ isTimeslotLength size → r ≡ timeslotInside s at to
+  unfolding timeslotInside
+  timeslot-there size r h e f = if-ge _ _ _ _ h (rw e at f)
+
+  pub joining-nowhere : at ≡ 0 → true ≡ joiningInside s at to
+  unfolding joiningInside
+  joining-nowhere h = if-eq _ _ _ _ h refl
+
+  module _ (some : at ≡ 0 → ⊥) where
+    pub joining-behind : length s < to → false ≡ joiningInside s at to
+    unfolding joiningInside
+    joining-behind h = if-ne _ _ _ _ some (if-lt _ _ _ _ h refl)
+
+    pub joining-there : (size byte : ℕ) (r : Bool) → to ≤ length s → size ≡ to - at → byte ≡ getD s at 0 → r ≡ isJoiningLength size (byte / 64 % 2) → r ≡ joiningInside s at to
+    unfolding joiningInside
+    joining-there size byte r h e f g = if-ne _ _ _ _ some (if-ge _ _ _ _ h (rw (e, f) at g))
+
+-- all of them
+pub all-inside : (s : List ℕ) (walk : Walk) (synchronization timeslot hopping slotframe joining : Bool) → synchronization ≡ bytesInside s (walk .synchronization) 6 → timeslot ≡ timeslotInside s (walk .timeslot) (walk .timeslotend)
+    → hopping ≡ bytesInside s (walk .hopping) 1 → slotframe ≡ slotframeInside s (walk .slotframe) → joining ≡ joiningInside s (walk .joining) (walk .joiningend)
+    → synchronization && (timeslot && (hopping && (slotframe && joining))) ≡ liesInside s walk
+unfolding liesInside
+all-inside s walk synchronization timeslot hopping slotframe joining e f g h k = rw (e, f, g, h, k)
+
+pub ruleset inside = (choices, starts-behind, ends-behind, ends-inside, slotframe-behind, links-many, links-few, timeslot-behind, timeslot-there, joining-nowhere, joining-behind, joining-there, all-inside)

@@ -1,0 +1,74 @@
+-- The laws of the network ID, in the shape in which the code meets them. Assumes nothing.
+use Prim.Native.Nat.{ℕ, _+_, _-_, _*_, _/_, _%_, _<_, _≤_}
+use mathlib.Core.Path.{_≡_, refl, sym, _∙_, ap}
+use mathlib.Core.List.{List}
+use native.Mathlib.Omega.{arith}
+use lib.Dec.{lit≤}
+use lib.ListN.{length, getD, take, drop}
+use Rattle.octets_spec.specs.Choice.{ifLt, ifEq}
+use Rattle.octets_spec.specs.Number.{beAt}
+use Rattle.octets_spec.proofs.ChoiceLaws.{if-lt, if-ge, if-eq, if-ne, choices}
+use Rattle.eb_read_spec.specs.Decode.{networkOffset}
+use Rattle.eb_read_spec.specs.Read.{examined}
+use Rattle.eb_read_spec.specs.Inside.{JoiningInside, AcceptedLiesInside}
+use Rattle.eb_read_spec.specs.Network.{noSpan, spanFrom, networkSpan, networkPart, NetworkLiesInside}
+use Rattle.eb_read_spec.specs.declared.Examination.{Examination}
+use Rattle.eb_read_spec.specs.declared.Span.{Span}
+use Rattle.eb_read_spec.proofs.DecodeLaws.{network-from}
+use Rattle.eb_read_spec.proofs.Each.{each-lt, each-eq}
+use Rattle.eb_read_spec.proofs.InsideLaws.{inside-facts}
+use Rattle.eb_read_spec.proofs.Accepted.{accepted-lies-inside}
+
+-- ---- a span lies inside the frame
+span-inside : (s : List ℕ) (from to : ℕ) → to ≤ length s → spanFrom from to .offset + spanFrom from to .length ≤ length s
+unfolding spanFrom
+span-inside s from to h = each-lt (λ (r : Span). r .offset + r .length ≤ length s) _ _ _ _ (λ some. omega arith) (λ none. omega arith)
+
+pub network-lies-inside : NetworkLiesInside
+unfolding networkSpan
+network-lies-inside s =
+    let P : Span → Type 0 = λ r. r .offset + r .length ≤ length s in
+    each-eq P _ _ _ _ (λ good. each-eq P _ _ _ _ (λ none. omega arith) (λ some. span-inside s _ _ (inside-facts s _ (accepted-lies-inside s good) .joining some .inside))) (λ bad. omega arith)
+
+-- ---- the span, as the code finds it
+pub offset-is : (s : List ℕ) (at word : ℕ) → word ≡ beAt 4 s at → 4 + 8 * (word / 1073741824 % 2) ≡ networkOffset s at
+offset-is = network-from
+
+pub span-some : (from to : ℕ) → from < to → record { offset = from; length = to - from } ≡ spanFrom from to
+unfolding spanFrom
+span-some from to h = if-lt _ _ _ _ h refl
+
+pub span-none : (from to : ℕ) → to ≤ from → noSpan ≡ spanFrom from to
+unfolding spanFrom
+span-none from to h = if-ge _ _ _ _ h refl
+
+module _ (s : List ℕ) (x : Examination) (e : x ≡ examined s) where
+  pub network-refused : (x .number ≡ 0 → ⊥) → noSpan ≡ networkSpan s
+  unfolding networkSpan
+  network-refused bad = rw (← e) (if-ne _ _ _ _ bad refl)
+
+  module _ (good : x .number ≡ 0) where
+    pub network-absent : x .walk .joining ≡ 0 → noSpan ≡ networkSpan s
+    unfolding networkSpan
+    network-absent none = rw (← e) (if-eq _ _ _ _ good (if-eq _ _ _ _ none refl))
+
+    module _ (some : x .walk .joining ≡ 0 → ⊥) where
+      pub network-there : (skip : ℕ) (r : Span) → skip ≡ networkOffset s (x .walk .joining) → r ≡ spanFrom (x .walk .joining + skip) (x .walk .joiningend) → r ≡ networkSpan s
+      unfolding networkSpan
+      network-there skip r k f = rw (← e) (if-eq _ _ _ _ good (if-ne _ _ _ _ some (rw k at f)))
+
+      pub joining-low : x .walk .joining ≤ length s
+      joining-low =
+          let inside : JoiningInside s (x .walk .joining) (x .walk .joiningend) = inside-facts s (x .walk) (rw e (accepted-lies-inside s (rw e at good))) .joining some in
+          omega (arith, inside .least, inside .inside)
+
+-- ---- the part
+module _ (s : List ℕ) (r : Span) (e : r ≡ networkSpan s) where
+  pub span-ends : r .offset + r .length ≤ length s
+  span-ends = rw e (network-lies-inside s)
+
+  pub part-is : take (r .offset + r .length - r .offset) (drop (r .offset) s) ≡ networkPart s
+  unfolding networkPart
+  part-is = let size : r .offset + r .length - r .offset ≡ r .length = omega arith in rw (size, e)
+
+pub ruleset networks = (choices, offset-is, span-some, span-none, network-refused, network-absent, network-there, part-is)
