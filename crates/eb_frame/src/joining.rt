@@ -5,13 +5,28 @@ ghost use Prim.Native.Nat.{_*_, _≤_, _<_};
 ghost use lib.ListN.{take};
 ghost use Rattle.octets_spec.specs.Choice.{ifOn};
 ghost use Rattle.octets_spec.specs.Number.{leBytes, beBytes, stored};
-ghost use Rattle.eb_write_spec.specs.Frame.{groupDescriptor, flag, joiningWord, joiningSize, joiningBytes};
+ghost use Rattle.eb_write_spec.specs.Frame.{ietfGroup, joiningSubtype, groupDescriptor, flag, joiningWord, joiningSize, joiningBytes};
 use eb_record_spec::JoiningInformation;
 
-fn flag_of(b: bool) -> u64
-    ensures { λ r. ⌜ (r ≡ flag b) × (r ≤ 1) ⌝ }
+// The descriptor of the IETF group with length 0, and the subtype of joining information in it.
+const IETF_GROUP: u64 = 0xA800;
+
+const JOINING_SUBTYPE: u64 = 2;
+// What a number is multiplied by to stand behind two bytes.
+const BYTE_2: u64 = 0x1_0000;
+// What the flags, the proxy priority and the rank priority are multiplied by in their word.
+const ROUTER: u64 = 0x8000_0000;
+
+const PROXIED: u64 = 0x4000_0000;
+
+const PROXY_PRIORITY: u64 = 0x10_0000;
+
+const RANK_PRIORITY: u64 = 0x100;
+
+fn flag_of(set: bool) -> u64
+    ensures { λ r. ⌜ (r ≡ flag set) × (r ≤ 1) ⌝ }
 {
-    if b {
+    if set {
         return 1;
     }
     0
@@ -21,17 +36,17 @@ fn flag_of(b: bool) -> u64
 fn joining_word(joining: JoiningInformation) -> u64
     ensures { λ r. ⌜ r ≡ joiningWord joining ⌝ }
 {
-    flag_of(joining.router) * 2147483648
-        + flag_of(joining.proxied) * 1073741824
-        + joining.proxy as u64 * 1048576
-        + joining.rank as u64 * 256
+    flag_of(joining.router) * ROUTER
+        + flag_of(joining.proxied) * PROXIED
+        + joining.proxy as u64 * PROXY_PRIORITY
+        + joining.rank as u64 * RANK_PRIORITY
         + joining.pan as u64
 }
 
-fn wide(x: u8) -> u64
-    ensures { λ r. ⌜ (r ≡ x) × (r < 256) ⌝ }
+fn wide(value: u8) -> u64
+    ensures { λ r. ⌜ (r ≡ value) × (r < 256) ⌝ }
 {
-    x as u64
+    value as u64
 }
 
 // The first bytes of a network ID.
@@ -79,7 +94,7 @@ fn put_joining_rest(buffer: &mut [u8], at: usize, joining: JoiningInformation)
 
 // The start of joining information: descriptor and subtype as one number of three bytes, then the flags and priorities.
 fn put_joining_start(buffer: &mut [u8], at: usize, joining: JoiningInformation)
-    ensures { λ _. ⌜ now (buffer .exit) ≡ stored (now (buffer .entry)) at (groupDescriptor 5 (joiningSize joining) ++ (leBytes 1 2 ++ beBytes 4 (joiningWord joining))) ⌝ }
+    ensures { λ _. ⌜ now (buffer .exit) ≡ stored (now (buffer .entry)) at (groupDescriptor ietfGroup (joiningSize joining) ++ (leBytes 1 joiningSubtype ++ beBytes 4 (joiningWord joining))) ⌝ }
 {
     if buffer.len() <= at {
         return;
@@ -88,7 +103,7 @@ fn put_joining_start(buffer: &mut [u8], at: usize, joining: JoiningInformation)
         buffer,
         at,
         3,
-        eb_limits::sizes::joining_size(joining) as u64 + 43008 + 2 * 65536,
+        eb_limits::sizes::joining_size(joining) as u64 + IETF_GROUP + JOINING_SUBTYPE * BYTE_2,
     );
     octets::put::put_be(buffer, at + 3, 4, joining_word(joining));
 }

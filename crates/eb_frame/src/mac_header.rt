@@ -7,6 +7,28 @@ ghost use Rattle.eb_write_spec.specs.Frame.{suppressedBit, sequenceBytes, sourc
 use eb_record_spec::Address;
 use eb_record_spec::SequenceNumber;
 
+// Frame control: the bits that are always set (PAN ID compression, elements present, destination short, version 2), and what the bit of a
+// suppressed sequence number and the source's addressing mode are multiplied by.
+const PAN_ID_COMPRESSION: u64 = 0x40;
+
+const SUPPRESSED: u64 = 0x100;
+
+const ELEMENTS_PRESENT: u64 = 0x200;
+
+const DESTINATION_SHORT: u64 = 0x800;
+
+const VERSION_2: u64 = 0x2000;
+
+const SOURCE_MODE: u64 = 0x4000;
+// The source's addressing modes.
+const SHORT: u64 = 2;
+
+const EXTENDED: u64 = 3;
+// The destination.
+const BROADCAST: u64 = 0xFFFF;
+// What a number is multiplied by to stand behind two bytes.
+const BYTE_2: u64 = 0x1_0000;
+
 fn suppressed_bit(sequence: SequenceNumber) -> u64
     ensures { λ r. ⌜ (r ≡ suppressedBit sequence) × (r ≤ 1) ⌝ }
 {
@@ -25,10 +47,10 @@ fn source_mode(source: Address) -> u64
 {
     match source {
         Address::Short(_) => {
-            return 2;
+            return SHORT;
         }
         Address::Extended(_) => {
-            return 3;
+            return EXTENDED;
         }
     }
 }
@@ -36,7 +58,12 @@ fn source_mode(source: Address) -> u64
 fn control_word(sequence: SequenceNumber, source: Address) -> u64
     ensures { λ r. ⌜ (r ≡ controlWord sequence source) × (r < 65536) ⌝ }
 {
-    64 + suppressed_bit(sequence) * 256 + 512 + 2048 + 8192 + source_mode(source) * 16384
+    PAN_ID_COMPRESSION
+        + suppressed_bit(sequence) * SUPPRESSED
+        + ELEMENTS_PRESENT
+        + DESTINATION_SHORT
+        + VERSION_2
+        + source_mode(source) * SOURCE_MODE
 }
 
 // What the byte of a sequence number holds, if there is one.
@@ -47,8 +74,8 @@ fn sequence_number(sequence: SequenceNumber) -> u64
         SequenceNumber::Absent => {
             return 0;
         }
-        SequenceNumber::Number(n) => {
-            return n as u64;
+        SequenceNumber::Number(number) => {
+            return number as u64;
         }
     }
 }
@@ -58,11 +85,11 @@ fn source_number(source: Address) -> u64
     ensures { λ r. ⌜ leBytes (length (sourceBytes source)) r ≡ sourceBytes source ⌝ }
 {
     match source {
-        Address::Short(n) => {
-            return n as u64;
+        Address::Short(number) => {
+            return number as u64;
         }
-        Address::Extended(n) => {
-            return n;
+        Address::Extended(number) => {
+            return number;
         }
     }
 }
@@ -72,9 +99,9 @@ pub fn put_mac_header(buffer: &mut [u8], sequence: SequenceNumber, pan: u16, sou
     ensures { λ _. ⌜ now (buffer .exit) ≡ stored (now (buffer .entry)) 0 (macHeaderBytes sequence pan source) ⌝ }
 {
     let size = eb_limits::sizes::sequence_size(sequence);
-    let first = control_word(sequence, source) + sequence_number(sequence) * 65536;
+    let first = control_word(sequence, source) + sequence_number(sequence) * BYTE_2;
     octets::put::put_le(buffer, 0, 2 + size as u8, first);
-    octets::put::put_le(buffer, 2 + size, 4, pan as u64 + 65535 * 65536);
+    octets::put::put_le(buffer, 2 + size, 4, pan as u64 + BROADCAST * BYTE_2);
     octets::put::put_le(
         buffer,
         6 + size,

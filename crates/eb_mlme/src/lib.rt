@@ -2,7 +2,7 @@
 ghost use mathlib.Core.Path.{_≡_};
 ghost use mathlib.Core.List.{_++_};
 ghost use Rattle.octets_spec.specs.Number.{leBytes, stored};
-ghost use Rattle.eb_write_spec.specs.Frame.{groupDescriptor, synchronizationBytes, templateBytes, hoppingBytes, slotframeBytes, groupSize, groupBytes};
+ghost use Rattle.eb_write_spec.specs.Frame.{mlmeGroup, groupDescriptor, synchronizationBytes, templateBytes, hoppingBytes, slotframeBytes, groupSize, groupBytes};
 use eb_record_spec::Slotframe;
 use eb_record_spec::Synchronization;
 use eb_record_spec::TimeslotTemplate;
@@ -10,13 +10,26 @@ use eb_record_spec::TimeslotTemplate;
 pub mod slotframe;
 pub mod template;
 
+// Descriptors with the lengths that do not vary: the MLME group's with length 0, synchronization's with 6, hopping's with 1.
+const MLME_GROUP: u64 = 0x8800;
+
+const SYNCHRONIZATION_DESCRIPTOR: u64 = 0x1A06;
+
+const HOPPING_DESCRIPTOR: u64 = 0xC801;
+// What a number is multiplied by to stand behind two bytes, and behind seven.
+const BYTE_2: u64 = 0x1_0000;
+
+const BYTE_7: u64 = 0x100_0000_0000_0000;
+// The first number that five bytes do not hold.
+const OVER_5_BYTES: u64 = 0x100_0000_0000;
+
 // The synchronization element as one number of eight bytes: descriptor, ASN, join metric.
 fn synchronization_number(synchronization: Synchronization) -> u64
     ensures { λ r. ⌜ leBytes 8 r ≡ synchronizationBytes synchronization ⌝ }
 {
-    6662
-        + synchronization.asn % 1099511627776 * 65536
-        + synchronization.metric as u64 * 72057594037927936
+    SYNCHRONIZATION_DESCRIPTOR
+        + synchronization.asn % OVER_5_BYTES * BYTE_2
+        + synchronization.metric as u64 * BYTE_7
 }
 
 // The start of the MLME group: descriptor, synchronization, timeslot.
@@ -27,7 +40,7 @@ fn put_group_start(
     template: TimeslotTemplate,
     count: u8,
 )
-    ensures { λ _. ⌜ now (buffer .exit) ≡ stored (now (buffer .entry)) at (groupDescriptor 1 (groupSize template count) ++ (synchronizationBytes synchronization ++ templateBytes template)) ⌝ }
+    ensures { λ _. ⌜ now (buffer .exit) ≡ stored (now (buffer .entry)) at (groupDescriptor mlmeGroup (groupSize template count) ++ (synchronizationBytes synchronization ++ templateBytes template)) ⌝ }
 {
     if buffer.len() <= at {
         return;
@@ -36,7 +49,7 @@ fn put_group_start(
         buffer,
         at,
         2,
-        eb_limits::sizes::group_size(template, count) as u64 + 34816,
+        eb_limits::sizes::group_size(template, count) as u64 + MLME_GROUP,
     );
     octets::put::put_le(buffer, at + 2, 8, synchronization_number(synchronization));
     crate::template::put_template(buffer, at + 10, template);
@@ -49,7 +62,7 @@ fn put_group_rest(buffer: &mut [u8], at: usize, hopping: u8, slotframe: Slotfram
     if buffer.len() <= at {
         return;
     }
-    octets::put::put_le(buffer, at, 3, 51201 + hopping as u64 * 65536);
+    octets::put::put_le(buffer, at, 3, HOPPING_DESCRIPTOR + hopping as u64 * BYTE_2);
     crate::slotframe::put_slotframe(buffer, at + 3, slotframe);
 }
 

@@ -4,15 +4,28 @@ ghost use mathlib.Core.List.{_++_};
 ghost use Prim.Native.Nat.{_+_, _*_, _≤_};
 ghost use lib.ListN.{take};
 ghost use Rattle.octets_spec.specs.Number.{leBytes, stored};
-ghost use Rattle.eb_write_spec.specs.Frame.{shortDescriptor, linkBytes, linksBytes, slotframeBytes};
+ghost use Rattle.eb_write_spec.specs.Frame.{slotframeId, shortDescriptor, linkBytes, linksBytes, slotframeBytes};
 use eb_record_spec::Link;
 use eb_record_spec::Slotframe;
+
+// The descriptor with the length of an element without links, and the slotframe count 1 behind it.
+const SLOTFRAME_DESCRIPTOR: u64 = 0x1B05;
+
+const ONE_SLOTFRAME: u64 = 0x1_0000;
+// What a number is multiplied by to stand behind so many bytes.
+const BYTE_2: u64 = 0x1_0000;
+
+const BYTE_3: u64 = 0x100_0000;
+
+const BYTE_4: u64 = 0x1_0000_0000;
+
+const BYTE_6: u64 = 0x1_0000_0000_0000;
 
 // A link as one number of five bytes: timeslot, channel offset, options.
 fn link_number(link: Link) -> u64
     ensures { λ r. ⌜ leBytes 5 r ≡ linkBytes link ⌝ }
 {
-    link.timeslot as u64 + link.channel_offset as u64 * 65536 + link.options as u64 * 4294967296
+    link.timeslot as u64 + link.channel_offset as u64 * BYTE_2 + link.options as u64 * BYTE_4
 }
 
 fn put_links(buffer: &mut [u8], at: usize, links: [Link; 16], used: usize)
@@ -31,13 +44,13 @@ fn put_links(buffer: &mut [u8], at: usize, links: [Link; 16], used: usize)
 
 // What stands before the links, as one number of seven bytes: descriptor, slotframe count, handle, size, number of links.
 fn head_number(handle: u8, size: u16, count: u8) -> u64
-    ensures { λ r. ⌜ leBytes 7 r ≡ shortDescriptor 27 (5 + 5 * count) ++ (leBytes 1 1 ++ (leBytes 1 handle ++ (leBytes 2 size ++ leBytes 1 count))) ⌝ }
+    ensures { λ r. ⌜ leBytes 7 r ≡ shortDescriptor slotframeId (5 + 5 * count) ++ (leBytes 1 1 ++ (leBytes 1 handle ++ (leBytes 2 size ++ leBytes 1 count))) ⌝ }
 {
-    (6917 + 5 * count as u64)
-        + 65536
-        + handle as u64 * 16777216
-        + size as u64 * 4294967296
-        + count as u64 * 281474976710656
+    (SLOTFRAME_DESCRIPTOR + 5 * count as u64)
+        + ONE_SLOTFRAME
+        + handle as u64 * BYTE_3
+        + size as u64 * BYTE_4
+        + count as u64 * BYTE_6
 }
 
 // The slotframe and link element.

@@ -5,6 +5,11 @@ ghost use Rattle.octets_spec.specs.Number.{stored};
 ghost use Rattle.eb_write_spec.specs.Frame.{numbersIn, lastWidth, timingsBytes, templateBytes};
 use eb_record_spec::TimeslotTemplate;
 
+// The descriptor with length 0.
+const TIMESLOT_DESCRIPTOR: u64 = 0x1C00;
+// What a number is multiplied by to stand behind two bytes.
+const BYTE_2: u64 = 0x1_0000;
+
 // The first ten timings, two bytes each.
 fn put_first_timings(buffer: &mut [u8], at: usize, timings: [u32; 12])
     ensures { λ _. ⌜ now (buffer .exit) ≡ stored (now (buffer .entry)) at (numbersIn 2 (take 10 timings)) ⌝ }
@@ -54,7 +59,7 @@ pub fn put_template(buffer: &mut [u8], at: usize, template: TimeslotTemplate)
         buffer,
         at,
         3,
-        size as u64 + 7168 + template.id as u64 * 65536,
+        size as u64 + TIMESLOT_DESCRIPTOR + template.id as u64 * BYTE_2,
     );
     if template.timed {
         put_timings(buffer, at + 3, timings);

@@ -9,8 +9,8 @@ use eb_record_spec::Beacon;
 use refusal::DONE;
 
 // A record's arrays have their sizes by their types. The function does nothing; a proof learns it from the call.
-fn sized(b: Beacon)
-    ensures { λ _. ⌜ Sized b ⌝ }
+fn sized(beacon: Beacon)
+    ensures { λ _. ⌜ Sized beacon ⌝ }
 {}
 
 // What comes back of a record that is not written.
@@ -24,15 +24,15 @@ fn refused(number: u8) -> ReadAnswer
 }
 
 // Writes a record's frame at the start of a lent buffer, and reads it there.
-pub fn write_and_read(buffer: &mut [u8], b: Beacon) -> ReadAnswer
-    ensures answer { λ r. ⌜ r ≡ backFrom b (length (now (buffer .entry))) ⌝ }
-    ensures buffer { λ _. ⌜ now (buffer .exit) ≡ bufferAfter b (now (buffer .entry)) ⌝ }
+pub fn write_and_read(buffer: &mut [u8], beacon: Beacon) -> ReadAnswer
+    ensures answer { λ r. ⌜ r ≡ backFrom beacon (length (now (buffer .entry))) ⌝ }
+    ensures buffer { λ _. ⌜ now (buffer .exit) ≡ bufferAfter beacon (now (buffer .entry)) ⌝ }
 {
-    let written = eb_write::write(buffer, b);
+    let written = eb_write::write(buffer, beacon);
     if written.number != DONE {
         return refused(written.number);
     }
-    sized(b);
+    sized(beacon);
     let length = written.length;
     eb_read::read(&buffer[..length])
 }

@@ -10,20 +10,23 @@ ghost use Rattle.eb_write_spec.specs.Claims.{WriteNumbers};
 use eb_record_spec::Beacon;
 use eb_write_spec::Written;
 
+// The bytes of the longest frame.
+const LONGEST_FRAME: usize = 125;
+
 // Writes a record's frame at the start of a lent buffer.
-pub fn write(buffer: &mut [u8], b: Beacon) -> Written
-    ensures answer { λ r. ⌜ r ≡ writtenIn b (length (now (buffer .entry))) ⌝ }
-    ensures buffer { λ _. ⌜ now (buffer .exit) ≡ bufferAfter b (now (buffer .entry)) ⌝ }
+pub fn write(buffer: &mut [u8], beacon: Beacon) -> Written
+    ensures answer { λ r. ⌜ r ≡ writtenIn beacon (length (now (buffer .entry))) ⌝ }
+    ensures buffer { λ _. ⌜ now (buffer .exit) ≡ bufferAfter beacon (now (buffer .entry)) ⌝ }
     ensures numbers { λ _. ⌜ WriteNumbers ⌝ }
 {
-    if !eb_limits::within_limits(b) {
+    if !eb_limits::within_limits(beacon) {
         return Written {
             number: OUT_OF_LIMITS,
             length: 0,
         };
     }
-    let length = eb_limits::sizes::frame_length(b);
-    if 125 < length {
+    let length = eb_limits::sizes::frame_length(beacon);
+    if LONGEST_FRAME < length {
         return Written {
             number: FRAME_TOO_LONG,
             length: 0,
@@ -35,7 +38,7 @@ pub fn write(buffer: &mut [u8], b: Beacon) -> Written
             length: 0,
         };
     }
-    eb_frame::put_frame(buffer, b);
+    eb_frame::put_frame(buffer, beacon);
     Written {
         number: DONE,
         length,

@@ -16,6 +16,44 @@ use Rattle.eb_record_spec.specs.declared.Slotframe.{Slotframe}
 use Rattle.eb_record_spec.specs.declared.JoiningInformation.{JoiningInformation}
 use Rattle.eb_record_spec.specs.declared.Beacon.{Beacon}
 
+-- ---- the IDs of elements (IEEE 802.15.4-2015, 7.4)
+-- the header element header termination 1, 0x7E: it ends the header list, and payload elements follow
+abbrev pub headerTermination1 : ℕ
+headerTermination1 = 126
+
+-- the payload group MLME, 0x1
+abbrev pub mlmeGroup : ℕ
+mlmeGroup = 1
+
+-- the payload group IETF, 0x5 (RFC 8137)
+abbrev pub ietfGroup : ℕ
+ietfGroup = 5
+
+-- in it, the subtype of joining information, 0x2 (RFC 9032)
+abbrev pub joiningSubtype : ℕ
+joiningSubtype = 2
+
+-- the short sub-element synchronization, 0x1A
+abbrev pub synchronizationId : ℕ
+synchronizationId = 26
+
+-- the short sub-element slotframe and link, 0x1B
+abbrev pub slotframeId : ℕ
+slotframeId = 27
+
+-- the short sub-element timeslot, 0x1C
+abbrev pub timeslotId : ℕ
+timeslotId = 28
+
+-- the long sub-element channel hopping, 0x9
+abbrev pub hoppingId : ℕ
+hoppingId = 9
+
+-- the short address that all nodes receive, 0xFFFF
+abbrev pub broadcast : ℕ
+broadcast = 65535
+
+-- ---- frame control and the fixed fields
 -- the bit of frame control that says that the sequence number is suppressed
 unfoldable pub suppressedBit : SequenceNumber → ℕ
 suppressedBit Absent = 1
@@ -42,12 +80,13 @@ controlWord sequence source = 2 ^ 6 + suppressedBit sequence * 2 ^ 8 + 2 ^ 9 + 2
 
 -- frame control and the fixed fields: sequence number, destination PAN, destination FF FF, source
 unfoldable pub macHeaderBytes : SequenceNumber → ℕ → Address → List ℕ
-macHeaderBytes sequence pan source = leBytes 2 (controlWord sequence source) ++ (sequenceBytes sequence ++ (leBytes 2 pan ++ (leBytes 2 65535 ++ sourceBytes source)))
+macHeaderBytes sequence pan source = leBytes 2 (controlWord sequence source) ++ (sequenceBytes sequence ++ (leBytes 2 pan ++ (leBytes 2 broadcast ++ sourceBytes source)))
 
 -- those of a record
 abbrev pub beaconMacHeader : Beacon → List ℕ
 beaconMacHeader b = macHeaderBytes (b .sequence) (b .pan) (b .source)
 
+-- ---- descriptors
 -- the descriptor of a header element: bits 0-6 length, 7-14 ID
 unfoldable pub headerDescriptor : ℕ → ℕ → List ℕ
 headerDescriptor id size = leBytes 2 (size + id * 2 ^ 7)
@@ -64,6 +103,7 @@ shortDescriptor id size = leBytes 2 (size + id * 2 ^ 8)
 unfoldable pub longDescriptor : ℕ → ℕ → List ℕ
 longDescriptor id size = leBytes 2 (size + id * 2 ^ 11 + 2 ^ 15)
 
+-- ---- elements
 -- the numbers of a list one after the other, each in so many bytes
 unfoldable pub numbersIn : ℕ → List ℕ → List ℕ
 numbersIn width [] = []
@@ -71,7 +111,7 @@ numbersIn width (n ∷ ns) = leBytes width n ++ numbersIn width ns
 
 -- synchronization: ASN (5 bytes), join metric
 unfoldable pub synchronizationBytes : Synchronization → List ℕ
-synchronizationBytes y = shortDescriptor 26 6 ++ (leBytes 5 (y .asn) ++ leBytes 1 (y .metric))
+synchronizationBytes y = shortDescriptor synchronizationId 6 ++ (leBytes 5 (y .asn) ++ leBytes 1 (y .metric))
 
 -- the bytes of each of the last two timings: 2 if both fit, else 3
 unfoldable pub lastWidth : List ℕ → ℕ
@@ -88,11 +128,11 @@ templateSize t = ifOn (t .timed) (21 + 2 * lastWidth (drop 10 (t .timings))) 1
 
 -- timeslot: template ID, then nothing or the timings
 unfoldable pub templateBytes : TimeslotTemplate → List ℕ
-templateBytes t = shortDescriptor 28 (templateSize t) ++ (leBytes 1 (t .id) ++ ifOn (t .timed) (timingsBytes (t .timings)) [])
+templateBytes t = shortDescriptor timeslotId (templateSize t) ++ (leBytes 1 (t .id) ++ ifOn (t .timed) (timingsBytes (t .timings)) [])
 
 -- hopping: the sequence ID
 unfoldable pub hoppingBytes : ℕ → List ℕ
-hoppingBytes id = longDescriptor 9 1 ++ leBytes 1 id
+hoppingBytes id = longDescriptor hoppingId 1 ++ leBytes 1 id
 
 -- a link: timeslot, channel offset, options
 unfoldable pub linkBytes : Link → List ℕ
@@ -106,7 +146,7 @@ linksBytes (l ∷ ls) = linkBytes l ++ linksBytes ls
 -- slotframe and link: slotframe count 1, handle, size, number of links, the links
 unfoldable pub slotframeBytes : Slotframe → List ℕ
 slotframeBytes f =
-    shortDescriptor 27 (5 + 5 * f .count)
+    shortDescriptor slotframeId (5 + 5 * f .count)
     ++ (leBytes 1 1 ++ (leBytes 1 (f .handle) ++ (leBytes 2 (f .size) ++ (leBytes 1 (f .count) ++ linksBytes (take (f .count) (f .links))))))
 
 -- the size of the MLME group behind its descriptor, with a timeslot element and so many links
@@ -116,7 +156,7 @@ groupSize timeslot count = 8 + (2 + templateSize timeslot) + 3 + (7 + 5 * count)
 -- the MLME group: synchronization, timeslot, hopping, slotframe
 unfoldable pub groupBytes : Synchronization → TimeslotTemplate → ℕ → Slotframe → List ℕ
 groupBytes synchronization timeslot hopping slotframe =
-    groupDescriptor 1 (groupSize timeslot (slotframe .count))
+    groupDescriptor mlmeGroup (groupSize timeslot (slotframe .count))
     ++ (synchronizationBytes synchronization ++ (templateBytes timeslot ++ (hoppingBytes hopping ++ slotframeBytes slotframe)))
 
 -- the size of a record's group
@@ -143,12 +183,13 @@ joiningSize j = 5 + 8 * flag (j .proxied) + j .length
 unfoldable pub joiningBytes : JoiningInformation → List ℕ
 joiningBytes j =
     ifOn (j .present)
-    (groupDescriptor 5 (joiningSize j) ++ (leBytes 1 2 ++ (beBytes 4 (joiningWord j) ++ (ifOn (j .proxied) (beBytes 8 (j .address)) [] ++ take (j .length) (j .network)))))
+    (groupDescriptor ietfGroup (joiningSize j) ++ (leBytes 1 joiningSubtype ++ (beBytes 4 (joiningWord j) ++ (ifOn (j .proxied) (beBytes 8 (j .address)) [] ++ take (j .length) (j .network)))))
     []
 
--- the frame: the header list is its terminator 0x7E alone, and no payload terminator follows the elements
+-- ---- the frame
+-- the frame: the header list is header termination 1 alone, and no payload terminator follows the elements
 unfoldable pub frameOf : Beacon → List ℕ
-frameOf b = beaconMacHeader b ++ (headerDescriptor 126 0 ++ (beaconGroup b ++ joiningBytes (b .joining)))
+frameOf b = beaconMacHeader b ++ (headerDescriptor headerTermination1 0 ++ (beaconGroup b ++ joiningBytes (b .joining)))
 
 -- its length as a formula of the record
 unfoldable pub frameLength : Beacon → ℕ

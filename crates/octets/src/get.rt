@@ -5,10 +5,10 @@ ghost use Prim.Native.Nat.{_≤_, _<_, _^_, min};
 ghost use lib.ListN.{length, getD};
 ghost use Rattle.octets_spec.specs.Number.{leAt, beAt};
 
-fn wide(x: u8) -> u64
-    ensures { λ r. ⌜ (r ≡ x) × (r < 256) ⌝ }
+fn wide(value: u8) -> u64
+    ensures { λ r. ⌜ (r ≡ value) × (r < 256) ⌝ }
 {
-    x as u64
+    value as u64
 }
 
 // The byte at an offset.
@@ -36,13 +36,13 @@ fn le_within(s: &[u8], at: usize, width: u8) -> u64
     requires { ⌜ (at < length (now s)) × (width ≤ 8) ⌝ }
     ensures { λ r. ⌜ (r ≡ leAt width (now (s .entry)) at) × (r < 256 ^ width) ⌝ }
 {
-    let mut n: u64 = 0;
+    let mut number: u64 = 0;
     let mut left = width;
     while 0 < left {
         left -= 1;
-        n = n * 256 + byte(s, at + left as usize);
+        number = number * 256 + byte(s, at + left as usize);
     }
-    n
+    number
 }
 
 // The number in `width` bytes from an offset on, least significant byte first.
@@ -60,13 +60,13 @@ fn be_within(s: &[u8], at: usize, width: u8) -> u64
     requires { ⌜ (at < length (now s)) × (width ≤ 8) ⌝ }
     ensures { λ r. ⌜ (r ≡ beAt width (now (s .entry)) at) × (r < 256 ^ width) ⌝ }
 {
-    let mut n: u64 = 0;
+    let mut number: u64 = 0;
     let mut i: u8 = 0;
     while i < width {
-        n = n * 256 + byte(s, at + i as usize);
+        number = number * 256 + byte(s, at + i as usize);
         i += 1;
     }
-    n
+    number
 }
 
 // The number in `width` bytes from an offset on, most significant byte first.

@@ -16,7 +16,7 @@ module _ {A : Type 0} (f : ℕ → A) where
   length-counted (suc n) = length-append (counted f n) (f n ∷ []) ∙ omega (arith, length-counted n)
 
   module _ (blank : A) (size : ℕ) where
-    -- an array whose first i offsets are filled
+    -- an array whose first i entries are filled
     unfoldable pub filled : ℕ → List A
     filled i = counted f i ++ replicate (size - i) blank
 

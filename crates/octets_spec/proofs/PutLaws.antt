@@ -72,6 +72,15 @@ module _ (buffer : List ℕ) (at width : ℕ) where
   unfolding leBytes stored
   le-end whole i rest over left = let none : width - i ≡ 0 = omega arith in rw none at left
 
+-- bytes past the end are not stored, so they need not be put
+pub le-cut : (inside width n at : ℕ) (buffer : List ℕ) → length buffer ≤ at + inside → inside ≤ width → stored buffer at (leBytes inside n) ≡ stored buffer at (leBytes width n)
+unfolding leBytes stored
+le-cut zero width n at buffer past less = sets-out buffer (leBytes width n) at (omega arith)
+le-cut (suc inside) (suc width) n at buffer past less = le-cut inside width (n / 256) (suc at) (set buffer at (n % 256)) (omega (arith, length-set buffer at (n % 256))) (omega arith)
+
+pub le-cut-at : (buffer after : List ℕ) (at width n : ℕ) → length buffer - at < width → after ≡ stored buffer at (leBytes (length buffer - at) n) → after ≡ stored buffer at (leBytes width n)
+le-cut-at buffer after at width n less put = put ∙ le-cut (length buffer - at) width n at buffer (omega arith) (omega arith)
+
 -- most significant first, the bytes are put from the last one back: those put so far stand from `left` on
 module _ (start buffer : List ℕ) (at width n : ℕ) where
   pub be-start : start ≡ stored start (at + width) (beBytes (width - width) n)

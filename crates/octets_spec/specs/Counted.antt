@@ -1,5 +1,4 @@
--- Lists that are counted out: the values of a function at 0, 1, . (docs/RULES.md, How the definitions are written). and so on.
--- Assumes nothing.
+-- Lists that are counted out: the values of a function at 0, 1 and so on (docs/RULES.md, How the definitions are written). Assumes nothing.
 use Prim.Native.Nat.{ℕ, zero, suc, _-_, min}
 use mathlib.Core.List.{List, [], _∷_, _++_}
 use lib.ListN.{replicate}

@@ -34,7 +34,7 @@ returns-2 c =
     let grouped = joined .before .before .before .before in
     let ended = grouped .before .before .before .before in
     let sized = ended .before .before in
-    elements-put _ _ _ _ _ (sized .before .before .before .args .b) _ (sized .before-joining .ensures .0) (ended .put-le .ensures .0) (grouped .put-group .ensures) (joined .put-joining .ensures)
+    elements-put _ _ _ _ _ (sized .before .before .before .args .beacon) _ (sized .before-joining .ensures .0) (ended .put-le .ensures .0) (grouped .put-group .ensures) (joined .put-joining .ensures)
 
 pub put-elements-spec : {M : Type 1} → statement M
 put-elements-spec =

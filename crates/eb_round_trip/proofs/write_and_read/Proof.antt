@@ -17,7 +17,7 @@ returns : tie.Need-returns
 returns c =
     let a = c .before .before .before .before .before .before .before .before .args in
     let written = c .before .before .before .before .before .write .ensures in
-    (back-refused (a .b) (a .buffer .now) _ (written .0) _ (search needs) (c .refused .ensures), written .1 .0)
+    (back-refused (a .beacon) (a .buffer .now) _ (written .0) _ (search needs) (c .refused .ensures), written .1 .0)
 
 sized-requires : tie.Need-sized-requires
 sized-requires c κs = search needs
@@ -42,7 +42,7 @@ returns-2 : tie.Need-returns-2
 returns-2 c =
     let a = c .before .before .before .before .before .before .before .before .before .before .args in
     let written = c .before .before .before .before .before .before .before .write .ensures in
-    (back-read (a .b) (a .buffer .now) _ (written .0) (search needs) _ (written .1 .0) (written .1 .1) (search needs) _ (c .read .ensures .0), written .1 .0)
+    (back-read (a .beacon) (a .buffer .now) _ (written .0) (search needs) _ (written .1 .0) (written .1 .1) (search needs) _ (c .read .ensures .0), written .1 .0)
 
 pub write-and-read-spec : {M : Type 1} → statement M
 write-and-read-spec =

@@ -15,8 +15,8 @@ abbrev μ-loop : tie.MeasureT-loop
 loop-holds : tie.Need-loop-holds Inv-loop μ-loop
 loop-holds c = search (needs, be-begins, be-turn, be-times, be-plus, be-ends)
 
-mul-n : tie.Need-mul-n Inv-loop μ-loop
-mul-n c = search (needs, be-begins, be-turn, be-times, be-plus, be-ends)
+mul-number : tie.Need-mul-number Inv-loop μ-loop
+mul-number c = search (needs, be-begins, be-turn, be-times, be-plus, be-ends)
 
 cast-byte : tie.Need-cast-byte Inv-loop μ-loop
 cast-byte c = search (needs, be-begins, be-turn, be-times, be-plus, be-ends)
@@ -27,8 +27,8 @@ add-byte c = search (needs, be-begins, be-turn, be-times, be-plus, be-ends)
 byte-requires : tie.Need-byte-requires Inv-loop μ-loop
 byte-requires c κs = search (needs, be-begins, be-turn, be-times, be-plus, be-ends)
 
-add-n : tie.Need-add-n Inv-loop μ-loop
-add-n c = search (needs, be-begins, be-turn, be-times, be-plus, be-ends)
+add-number : tie.Need-add-number Inv-loop μ-loop
+add-number c = search (needs, be-begins, be-turn, be-times, be-plus, be-ends)
 
 add-i : tie.Need-add-i Inv-loop μ-loop
 add-i c = search (needs, be-begins, be-turn, be-times, be-plus, be-ends)
@@ -49,11 +49,11 @@ be-within-spec =
     Inv-loop
     μ-loop
     loop-holds
-    mul-n
+    mul-number
     cast-byte
     add-byte
     byte-requires
-    add-n
+    add-number
     add-i
     loop-less
     loop-again

@@ -18,8 +18,8 @@ loop-holds c = search (needs, le-begins, le-turn, le-times, le-plus, le-ends)
 sub-left : tie.Need-sub-left Inv-loop μ-loop
 sub-left c = search (needs, le-begins, le-turn, le-times, le-plus, le-ends)
 
-mul-n : tie.Need-mul-n Inv-loop μ-loop
-mul-n c = search (needs, le-begins, le-turn, le-times, le-plus, le-ends)
+mul-number : tie.Need-mul-number Inv-loop μ-loop
+mul-number c = search (needs, le-begins, le-turn, le-times, le-plus, le-ends)
 
 cast-byte : tie.Need-cast-byte Inv-loop μ-loop
 cast-byte c = search (needs, le-begins, le-turn, le-times, le-plus, le-ends)
@@ -30,8 +30,8 @@ add-byte c = search (needs, le-begins, le-turn, le-times, le-plus, le-ends)
 byte-requires : tie.Need-byte-requires Inv-loop μ-loop
 byte-requires c κs = search (needs, le-begins, le-turn, le-times, le-plus, le-ends)
 
-add-n : tie.Need-add-n Inv-loop μ-loop
-add-n c = search (needs, le-begins, le-turn, le-times, le-plus, le-ends)
+add-number : tie.Need-add-number Inv-loop μ-loop
+add-number c = search (needs, le-begins, le-turn, le-times, le-plus, le-ends)
 
 loop-less : tie.Need-loop-less Inv-loop μ-loop
 loop-less c = search (needs, le-begins, le-turn, le-times, le-plus, le-ends)
@@ -50,11 +50,11 @@ le-within-spec =
     μ-loop
     loop-holds
     sub-left
-    mul-n
+    mul-number
     cast-byte
     add-byte
     byte-requires
-    add-n
+    add-number
     loop-less
     loop-again
     returns)
