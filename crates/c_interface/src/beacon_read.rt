@@ -1,0 +1,35 @@
+// Reading a beacon for C.
+ghost use mathlib.Core.Path.{_≡_};
+ghost use Rattle.eb_read_spec.specs.Read.{readFrame};
+ghost use Rattle.eb_read_spec.specs.Form.{formReading};
+ghost use Rattle.eb_read_spec.specs.Network.{networkSpan};
+use eb_read_spec::FormReading;
+use eb_read_spec::Span;
+use refusal::DONE;
+
+// The number of a frame and its record, which is the blank one if the frame is refused.
+#[no_mangle]
+pub extern "C" fn tesolvagna_beacon_read(s: &[u8]) -> FormReading
+    ensures { λ r. ⌜ r ≡ formReading (readFrame (now (s .entry))) ⌝ }
+{
+    let found = eb_examine::examine(s);
+    if found.number != DONE {
+        return FormReading {
+            number: found.number,
+            beacon: eb_decode::blank_form(),
+        };
+    }
+    let walk = found.walk;
+    FormReading {
+        number: DONE,
+        beacon: eb_decode::decode(s, walk),
+    }
+}
+
+// Where the network ID of a frame lies in its bytes: 0 and 0 if the frame is refused, or has none, or one of no bytes.
+#[no_mangle]
+pub extern "C" fn tesolvagna_beacon_network_id(s: &[u8]) -> Span
+    ensures { λ r. ⌜ r ≡ networkSpan (now (s .entry)) ⌝ }
+{
+    eb_read::network::network_span(s)
+}
