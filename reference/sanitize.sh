@@ -1,6 +1,7 @@
 #!/usr/bin/env bash
-# Looks for memory errors of the library's reader: every frame of the differential test is read from C under valgrind,
-# in a heap block of exactly its size (c/frames.c). An address sanitizer would not do: it sees only what it compiled.
+# Looks for memory errors of the library's reader and writer: every frame of the differential test is read from C under
+# valgrind, in a heap block of exactly its size, and the record of an accepted one is written into a block of just enough
+# bytes (c/frames.c). An address sanitizer would not do: it sees only what it compiled.
 # Not part of the gate. Needs valgrind, cc, cargo and the static library, found as build.rs finds it.
 set -euo pipefail
 cd "$(dirname "$0")"
@@ -16,7 +17,7 @@ fail() {
 
 command -v valgrind >/dev/null || fail "no valgrind"
 [[ -f $folder/libtesolvagna.a ]] || fail "no static library at $folder/libtesolvagna.a"
-cc -std=c99 -g -O1 -Wall -Wextra -Werror -pedantic -I ../include c/frames.c "$folder/libtesolvagna.a" -o "$work/frames"
+cc -std=c99 -g -O1 -Wall -Wextra -Wconversion -Wpedantic -Werror -I ../include c/frames.c "$folder/libtesolvagna.a" -o "$work/frames"
 cargo build --release --offline --locked --quiet --bin dump_frames
 
 dump() {
