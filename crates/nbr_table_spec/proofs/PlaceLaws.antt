@@ -21,10 +21,6 @@ use Rattle.nbr_table_spec.specs.Search.{first, firstFrom}
 pub length-mapped : {X Y : Type 0} (f : X → Y) (l : List X) (n : ℕ) → length (map f l) ≡ n → length l ≡ n
 length-mapped f l n e = sym (length-map l f) ∙ e
 
--- what a call answered, said of the definition
-pub answered : (x y b : Bool) → x ≡ y → x ≡ b → y ≡ b
-answered x y b e h = sym e ∙ h
-
 -- ---- one place
 module _ (p : Place) where
   pub free-not : p .used ≡ true → false ≡ free p
@@ -148,18 +144,6 @@ module _ (b p : Place) (x y : Bool) where
   unfolding better ifOn
   better-old e u = simp (← e, u)
 
-pub best-start : (b : Place) (ps : List Place) → b ≡ blank → bestOf b ps ≡ best ps
-best-start b ps e = ap (λ (z : Place). bestOf z ps) e
-
-module _ (b : Place) (ps : List Place) (i : ℕ) (w : Place) where
-  pub best-next : (q : Place) → i < length ps → bestOf b (drop i ps) ≡ w → q ≡ better b (getD ps i blank) → bestOf q (drop (i + 1) ps) ≡ w
-  unfolding bestOf
-  best-next q l h e = rw add-one (subst (λ (z : Place). bestOf z (drop (suc i) ps) ≡ w) (sym e) (rw (drop-cons ps i blank l) at h))
-
-  pub best-end : (n : ℕ) → length ps ≡ n → n ≤ i → bestOf b (drop i ps) ≡ w → b ≡ w
-  unfolding bestOf
-  best-end n e l h = let k : length ps ≤ i = omega arith in rw (drop-of-length-le ps k) at h
-
 -- a disjunction that fails, fails in each part
 pub neither : (a b : Bool) → a || b ≡ false → (a ≡ false) × (b ≡ false)
 neither true b e = (e, cc)
@@ -249,6 +233,4 @@ fit-limits p e =
 -- one set for each crate of functions over places
 pub ruleset searchWays = (free-not, free-is, named-used, named-free, first-next, first-found, first-end)
 
-pub ruleset limitWays = (nonzero-id, nonzero-rank, nonzero-attempts, nonzero-acked, unfit-attempts, unfit-acked, unfit-used, unfit-free, some-next, some-found, some-end, twice-next, twice-found, twice-end, again-used, again-free)
-
-pub ruleset bestWays = (nearer-cost, nearer-held, nearer-id, nearer-tie, better-both, better-new, better-old, best-start, best-next, best-end)
+pub ruleset limitWays = (nonzero-id, nonzero-rank, nonzero-attempts, nonzero-acked, unfit-attempts, unfit-acked, unfit-used, unfit-free, some-next, some-found, some-end, twice-end)

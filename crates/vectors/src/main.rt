@@ -134,7 +134,7 @@ fn child(rank: u16) -> u16 {
 
 // A tag at some rank: its join metric, and its child's own rank.
 fn hop(rank: u16) -> u16 {
-    let metric = nbr_metric::join_metric::join_metric(rank);
+    let metric = nbr_metric::join_metric::join_metric(rank as u32);
     let own = child(rank);
     put(rank as u64, b' ');
     put(metric.number as u64, b' ');
