@@ -9,7 +9,7 @@ use Rattle.octets_spec.proofs.ChoiceLaws.{if-on, if-off}
 use Rattle.eb_record_spec.specs.declared.JoiningInformation.{JoiningInformation}
 use Rattle.eb_write_spec.specs.Limits.{allBelow, addressFits, presentFits, absentFits, joiningFits}
 use Rattle.eb_write_spec.specs.Range.{allFrom, below}
-use Rattle.eb_write_spec.proofs.RangeLaws.{stretches, all-used, clip-drop}
+use Rattle.eb_write_spec.proofs.RangeLaws.{ranges, all-used, clip-drop}
 
 module _ (j : JoiningInformation) where
   pub address-there : j .proxied ≡ true → j .address < 18446744073709551616 → true ≡ addressFits j
@@ -40,4 +40,4 @@ module _ (j : JoiningInformation) (r : Bool) where
   unfolding joiningFits
   joining-absent off e = if-off _ _ (j .present) off e
 
-pub ruleset joinings = (stretches, address-there, address-unused, present-is, absent-is, joining-present, joining-absent)
+pub ruleset joinings = (ranges, address-there, address-unused, present-is, absent-is, joining-present, joining-absent)

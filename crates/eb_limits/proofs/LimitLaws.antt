@@ -16,7 +16,7 @@ use Rattle.eb_record_spec.specs.declared.Beacon.{Beacon}
 use Rattle.eb_write_spec.specs.Limits.{allBelow, sequenceFits, synchronizationFits, templateFits, slotframeFits, joiningFits, fits}
 use Rattle.eb_record_spec.specs.Form.{sourceFits}
 use Rattle.eb_write_spec.specs.Range.{allFrom, below}
-use Rattle.eb_write_spec.proofs.RangeLaws.{stretches, whole}
+use Rattle.eb_write_spec.proofs.RangeLaws.{ranges, whole}
 
 -- a number that fits by its type
 pub by-type : (n bound : ℕ) → n < bound → true ≡ ltb n bound
@@ -57,4 +57,4 @@ pub within-is : (b : Beacon) (q a y t f j : Bool) → b .pan < 65536 → b .hopp
 unfolding fits
 within-is b q a y t f j pan hopping e₁ e₂ e₃ e₄ e₅ e₆ = rw (lt-ltb (b .pan) 65536 pan, lt-ltb (b .hopping) 256 hopping, e₁, e₂, e₃, e₄, e₅, e₆)
 
-pub ruleset limits = (stretches, by-type, sequence-absent, sequence-number, source-short, source-extended, synchronization-is, template-timed, template-bare, within-is)
+pub ruleset limits = (ranges, by-type, sequence-absent, sequence-number, source-short, source-extended, synchronization-is, template-timed, template-bare, within-is)

@@ -9,7 +9,7 @@ use Rattle.eb_record_spec.specs.declared.Link.{Link}
 use Rattle.eb_record_spec.specs.declared.Slotframe.{Slotframe}
 use Rattle.eb_write_spec.specs.Limits.{linkFits, linkUnused, slotframeFits}
 use Rattle.eb_write_spec.specs.Range.{allFrom}
-use Rattle.eb_write_spec.proofs.RangeLaws.{stretches, all-used, all-unused}
+use Rattle.eb_write_spec.proofs.RangeLaws.{ranges, all-used, all-unused}
 
 pub link-is : (l : Link) (size : ℕ) → l .«channel_offset» < 65536 → ltb (l .timeslot) size && ltb (l .options) 256 ≡ linkFits size l
 unfolding linkFits
@@ -25,4 +25,4 @@ unfolding slotframeFits
 slotframe-is f used u v sixteen handle size n e₁ e₂ =
     rw (lt-ltb (f .handle) 256 handle, lt-ltb (f .size) 65536 size, e₁, e₂, all-used (linkFits (f .size)) (f .links) 16 sixteen (f .count) used n, all-unused linkUnused (f .links) 16 sixteen (f .count) used n)
 
-pub ruleset slotframes = (stretches, link-is, link-blank, slotframe-is)
+pub ruleset slotframes = (ranges, link-is, link-blank, slotframe-is)

@@ -92,7 +92,7 @@ pub struct BeaconForm {
     pub joining: JoiningInformation,
 }
 
-// A link whose numbers are all zero: what stands in the unused offsets of a slotframe.
+// A link whose numbers are all zero: what a slotframe holds behind its used links.
 pub fn blank_link() -> Link
     ensures { λ r. ⌜ r ≡ blankLink ⌝ }
 {

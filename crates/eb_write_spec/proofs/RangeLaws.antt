@@ -1,4 +1,4 @@
--- Tests of a stretch of a list, in the shape in which a loop makes them; used offsets and those behind them. Assumes nothing.
+-- Tests of a range of a list, in the shape in which a loop makes them: the entries in use, and those behind them. Assumes nothing.
 use Prim.Native.Nat.{ℕ, suc, _-_, _<_, _≤_, min}
 use mathlib.Core.Path.{_≡_, refl, sym, _∙_}
 use mathlib.Core.Bool.{Bool, true, _&&_}
@@ -15,7 +15,7 @@ use Rattle.eb_write_spec.specs.Range.{allFrom, below}
 pub length-mapped : {X Y : Type 0} (f : X → Y) (l : List X) (n : ℕ) → length (map f l) ≡ n → length l ≡ n
 length-mapped f l n e = sym (length-map l f) ∙ e
 
--- ---- a stretch of a list, tested from its end back: the entries from i on are tested
+-- ---- a range of a list, tested from its end back: the entries from i on are tested
 module _ {A : Type 0} (test : A → Bool) (xs : List A) (size : ℕ) (long : length xs ≡ size) where
   pub range-begins : (to : ℕ) → to ≤ size → true ≡ allFrom test xs to to
   unfolding allFrom allOf
@@ -38,7 +38,7 @@ pub below-turn : (xs : List ℕ) (size bound i to from : ℕ) (ok : Bool) → le
 unfolding below
 below-turn xs size bound i to from ok long so-far some within short = range-turn (below bound) xs size long i to ok so-far 0 (ltb (getD xs (i - 1) 0) bound) from some within short refl
 
--- ---- a stretch that begins or ends with the list
+-- ---- a range that begins or ends with the list
 module _ {A : Type 0} (xs : List A) (n : ℕ) where
   pub clip-take : (size : ℕ) → length xs ≡ size → take (min n size) xs ≡ take n xs
   clip-take size long =
@@ -70,4 +70,4 @@ pub unused-from : (xs : List ℕ) (size bound from : ℕ) (u : Bool) → length 
 unfolding allBelow below
 unused-from xs size bound from u long e = e ∙ all-from (below bound) xs size long from
 
-pub ruleset stretches = (length-mapped, range-begins, range-turn, range-ends, below-turn, unused-from)
+pub ruleset ranges = (length-mapped, range-begins, range-turn, range-ends, below-turn, unused-from)

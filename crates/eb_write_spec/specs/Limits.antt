@@ -50,7 +50,7 @@ linkFits size l = ltb (l .timeslot) size && (ltb (l .«channel_offset») (2 ^ 16
 unfoldable pub linkUnused : Link → Bool
 linkUnused l = eqb (l .timeslot) 0 && (eqb (l .«channel_offset») 0 && eqb (l .options) 0)
 
--- size at least 1, 1 to 16 links, and the offsets behind them unused
+-- size at least 1, 1 to 16 links, and the links behind them unused
 unfoldable pub slotframeFits : Slotframe → Bool
 slotframeFits f =
     ltb (f .handle) 256

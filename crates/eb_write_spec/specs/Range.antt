@@ -1,4 +1,4 @@
--- Tests of a stretch of a list, as a loop makes them (docs/RULES.md, Writing). Assumes nothing.
+-- Tests of a range of a list, as a loop makes them (docs/RULES.md, Writing). Assumes nothing.
 use Prim.Native.Nat.{ℕ}
 use mathlib.Core.Bool.{Bool}
 use mathlib.Core.List.{List}
@@ -6,7 +6,7 @@ use lib.Dec.{ltb}
 use lib.ListN.{take, drop}
 use Rattle.eb_write_spec.specs.Limits.{allOf}
 
--- a test holds of every entry from an offset to another
+-- a test holds of every entry from an index to another
 unfoldable pub allFrom : {A : Type 0} → (A → Bool) → List A → ℕ → ℕ → Bool
 allFrom test xs from to = allOf test (drop from (take to xs))
 

@@ -1,4 +1,5 @@
-// The numbers that a call can return, each with when it is given.
+// The numbers that a call can return, each with when it is given. The definitions have the same names (specs/Refusal.antt), and so has
+// include/tesolvagna.h, with TESOLVAGNA_ in front.
 
 // The call is done; nothing was refused.
 pub const DONE: u8 = 0;
@@ -10,9 +11,9 @@ pub const CUT: u8 = 2;
 pub const WRONG_TYPE: u8 = 3;
 // The security bit is set.
 pub const SECURED: u8 = 4;
-// The addressing form, the destination or the presence of elements is not as an Enhanced Beacon has it.
+// The addressing modes, PAN ID compression, the presence of elements or the destination are not as an Enhanced Beacon has them.
 pub const ADDRESSING: u8 = 5;
-// An element has the wrong shape.
+// An element has the wrong shape: its length or a bit of its descriptor is not as its kind has it.
 pub const SHAPE: u8 = 6;
 // A required element is missing, or a known element is seen twice.
 pub const MISSING_OR_TWICE: u8 = 7;
@@ -22,5 +23,5 @@ pub const OUT_OF_LIMITS: u8 = 8;
 pub const BUFFER_TOO_SHORT: u8 = 9;
 // The neighbour is not in the table.
 pub const UNKNOWN_NEIGHBOUR: u8 = 10;
-// The neighbour is new, and all 32 offsets of the table are in use.
+// The neighbour is new, and all 32 places of the table are in use.
 pub const TABLE_FULL: u8 = 11;
