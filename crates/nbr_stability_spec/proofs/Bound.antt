@@ -44,7 +44,7 @@ falls t e =
 
 -- ---- a list
 -- a call keeps a table that is not refused so
-kept : (t : Table) (c : Call) → broken t ≡ false → broken (after t c) ≡ false
+pub kept : (t : Table) (c : Call) → broken t ≡ false → broken (after t c) ≡ false
 unfolding after
 kept t (Advertise n rank) h = calls-keep-tables t h .0 n rank
 kept t (Report n k ok) h = calls-keep-tables t h .1 n k ok

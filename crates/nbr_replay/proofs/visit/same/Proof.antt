@@ -13,14 +13,14 @@ enum-told-2 c = search needs
 enum-told-3 : tie.Need-enum-told-3
 enum-told-3 c = search needs
 
-enum-known-q : tie.Need-enum-known-q
-enum-known-q c = search needs
+enum-known-before : tie.Need-enum-known-before
+enum-known-before c = search needs
 
 enum-told-4 : tie.Need-enum-told-4
 enum-told-4 c = search needs
 
-enum-known-p : tie.Need-enum-known-p
-enum-known-p c = search needs
+enum-known-after : tie.Need-enum-known-after
+enum-known-after c = search needs
 
 returns : tie.Need-returns
 returns c = search (needs, visitWays)
@@ -41,9 +41,9 @@ same-spec =
     enum-told
     enum-told-2
     enum-told-3
-    enum-known-q
+    enum-known-before
     enum-told-4
-    enum-known-p
+    enum-known-after
     returns
     returns-2
     returns-3
