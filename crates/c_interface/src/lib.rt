@@ -1,3 +1,4 @@
 // What a firmware or a gateway calls from C: numbers, structs by value and lent slices. include/tesolvagna.h describes each function.
 pub mod rank;
 pub mod slot;
+pub mod table;

@@ -2,6 +2,7 @@
 use nbr_metric::path_cost;
 use nbr_metric_spec::Place;
 use nbr_parent::held_parent::place_of;
+use nbr_parent::held_parent::same;
 use nbr_replay_spec::Visit;
 use nbr_table_spec::Parent;
 ghost use mathlib.Core.Path.{_≡_};
@@ -9,22 +10,6 @@ ghost use mathlib.Core.Bool.{cond};
 ghost use Prim.Native.Nat.{_<_, _≤_, _^_};
 ghost use Rattle.nbr_table_spec.specs.Calls.{sameParent};
 ghost use Rattle.nbr_replay_spec.specs.Visit.{visited};
-
-// Whether two held parents are the same.
-fn same(before: Parent, after: Parent) -> bool
-    ensures { λ r. ⌜ r ≡ sameParent before after ⌝ }
-{
-    match before {
-        Parent::None => match after {
-            Parent::None => true,
-            Parent::Held(_) => false,
-        },
-        Parent::Held(old) => match after {
-            Parent::None => false,
-            Parent::Held(new) => old == new,
-        },
-    }
-}
 
 // 1 where the held parents differ, else 0.
 fn change(before: Parent, after: Parent) -> u32

@@ -60,16 +60,16 @@ unfolding counted ifLt call ifEq
 tally-next t cs kind id value flag v h =
     by-lt kind 3
     (λ k. rw (lt-ltb kind 3 k)
-        (split (eqb kind 0) (λ a. rw a (tally-advertise t cs id value))
-        (λ a. split (eqb kind 1) (λ b. rw (a, b) (tally-report t cs id value (eqb flag 1)))
-        (λ b. split (eqb kind 2) (λ c. rw (a, b, c) (tally-forget t cs id))
-        (λ c. absurd (let x = eqb-false kind 0 a in let y = eqb-false kind 1 b in let z = eqb-false kind 2 c in omega arith))))))
+    (split (eqb kind 0) (λ a. rw a (tally-advertise t cs id value))
+    (λ a. split (eqb kind 1) (λ b. rw (a, b) (tally-report t cs id value (eqb flag 1)))
+    (λ b. split (eqb kind 2) (λ c. rw (a, b, c) (tally-forget t cs id))
+    (λ c. absurd (let x = eqb-false kind 0 a in let y = eqb-false kind 1 b in let z = eqb-false kind 2 c in omega arith))))))
     (λ k.
-        let a : eqb kind 0 ≡ false = ne-eqb kind 0 (λ z. omega arith) in
-        let b : eqb kind 1 ≡ false = ne-eqb kind 1 (λ z. omega arith) in
-        let c : eqb kind 2 ≡ false = ne-eqb kind 2 (λ z. omega arith) in
-        let g : v ≡ visited (final t cs) (after (final t cs) Evaluate) = rw (a, b, c) at (h k) in
-        rw (a, b, c, le-ltb kind 3 k) (ap (noted (tally t cs)) g ∙ tally-evaluate t cs))
+    let a : eqb kind 0 ≡ false = ne-eqb kind 0 (λ z. omega arith) in
+    let b : eqb kind 1 ≡ false = ne-eqb kind 1 (λ z. omega arith) in
+    let c : eqb kind 2 ≡ false = ne-eqb kind 2 (λ z. omega arith) in
+    let g : v ≡ visited (final t cs) (after (final t cs) Evaluate) = rw (a, b, c) at (h k) in
+    rw (a, b, c, le-ltb kind 3 k) (ap (noted (tally t cs)) g ∙ tally-evaluate t cs))
 
 module _ (ks ns vs fs : List ℕ) (i : ℕ) (t : Table) (ps : List Place) (q : Parent) (n r : Counts) (s : Step) (m : Ran (log ks ns vs fs) i t ps q n)
     (h : IsStep (record { places = ps; parent = q }) (getD ks i 0) (call (getD ks i 0) (getD ns i 0) (getD vs i 0) (getD fs i 0)) s) (c : r ≡ counted (getD ks i 0) n (s .visit)) (o : OneMore n r) where
@@ -150,25 +150,25 @@ module _ (t : Table) (l : Log) where
 
   -- what the theorems say of an answer
   module _ (r : Outcome) (e : r ≡ replayed t l) where
-    is : (r ≡ refusedReplay 8 t) ⊎ ((broken t ≡ false) × (r ≡ outcome t (calls l)))
+    pub replay-is : (r ≡ refusedReplay 8 t) ⊎ ((broken t ≡ false) × (r ≡ outcome t (calls l)))
     unfolding replayed ifOn
-    is =
+    replay-is =
         split (broken t) (λ b. inl (rw b at e))
         (λ b. split (unfitLog l) (λ u. inl (rw (b, u) at e)) (λ u. inr (b, rw (b, u) at e)))
 
     pub replay-bound : r .applies ≡ true → 641 * r .changes + r .last ≤ r .first + r .rises
     replay-bound h =
         ⊎-elim (λ f. clash (r .applies) h (ap (λ (z : Outcome). z .applies) f))
-        (λ f. subst (λ (z : Outcome). 641 * z .changes + z .last ≤ z .first + z .rises) (sym (f .1)) (parents-do-not-flap t (calls l) (sym (ap (λ (z : Outcome). z .applies) (f .1)) ∙ h))) is
+        (λ f. subst (λ (z : Outcome). 641 * z .changes + z .last ≤ z .first + z .rises) (sym (f .1)) (parents-do-not-flap t (calls l) (sym (ap (λ (z : Outcome). z .applies) (f .1)) ∙ h))) replay-is
 
     pub replay-few : r .applies ≡ true → r .rises ≡ 0 → r .changes ≤ 101
     replay-few h k =
         ⊎-elim (λ f. clash (r .applies) h (ap (λ (z : Outcome). z .applies) f))
-        (λ f. subst (λ (z : Outcome). z .changes ≤ 101) (sym (f .1)) (at-most-101-changes t (calls l) (sym (ap (λ (z : Outcome). z .applies) (f .1)) ∙ h) (sym (ap (λ (z : Outcome). z .rises) (f .1)) ∙ k))) is
+        (λ f. subst (λ (z : Outcome). z .changes ≤ 101) (sym (f .1)) (at-most-101-changes t (calls l) (sym (ap (λ (z : Outcome). z .applies) (f .1)) ∙ h) (sym (ap (λ (z : Outcome). z .rises) (f .1)) ∙ k))) replay-is
 
     pub replay-accepted : r .number ≡ 0 → noneRefused (evaluations t (calls l)) ≡ true
     replay-accepted h =
-        ⊎-elim (λ f. absurd (let z : r .number ≡ 8 = ap (λ (o : Outcome). o .number) f in omega arith)) (λ f. none-refused t (calls l) (f .0)) is
+        ⊎-elim (λ f. absurd (let z : r .number ≡ 8 = ap (λ (o : Outcome). o .number) f in omega arith)) (λ f. none-refused t (calls l) (f .0)) replay-is
 
     -- the answer with all that
     pub replay-says : (r ≡ replayed t l) × ((r .applies ≡ true → 641 * r .changes + r .last ≤ r .first + r .rises) × ((r .applies ≡ true → r .rises ≡ 0 → r .changes ≤ 101) × (r .number ≡ 0 → noneRefused (evaluations t (calls l)) ≡ true)))

@@ -9,8 +9,11 @@ pub const MOST_ROWS: usize = 65535;
 
 // The kinds of calls, as a log has them.
 pub const ADVERTISE: u8 = 0;
+
 pub const REPORT: u8 = 1;
+
 pub const FORGET: u8 = 2;
+
 pub const EVALUATE: u8 = 3;
 
 // What a log comes to: the table at the end, how many evaluations there were, how many of them changed the parent, all

@@ -23,7 +23,7 @@ use Rattle.nbr_stability_spec.specs.Stability.{AtMost101Changes, Call, N
 use Rattle.nbr_stability_spec.specs.Stability.Call.{Advertise, Report, Forget, Evaluate}
 
 -- ---- one evaluation
-same-self : (q : Parent) → sameParent q q ≡ true
+pub same-self : (q : Parent) → sameParent q q ≡ true
 unfolding sameParent
 same-self None = refl
 same-self (Held n) = eq-eqb n n refl

@@ -1,8 +1,8 @@
--- `nbr_replay::visit::same` meets its contract. Assumes nothing.
-use Rattle.nbr_replay_spec.proofs.VisitLaws.{visitWays}
+-- `nbr_parent::held_parent::same` meets its contract. Assumes nothing.
+use Rattle.nbr_table_spec.proofs.CallLaws.{sameWays}
 use borrow.Author.Needs.{needs}
-use Rattle.nbr_replay.proofs.visit.same.Statement.{statement}
-use Rattle.nbr_replay.proofs.visit.same.Tie as tie
+use Rattle.nbr_parent.proofs.held_parent.same.Statement.{statement}
+use Rattle.nbr_parent.proofs.held_parent.same.Tie as tie
 
 enum-told : tie.Need-enum-told
 enum-told c = search needs
@@ -23,16 +23,16 @@ enum-known-after : tie.Need-enum-known-after
 enum-known-after c = search needs
 
 returns : tie.Need-returns
-returns c = search (needs, visitWays)
+returns c = search (needs, sameWays)
 
 returns-2 : tie.Need-returns-2
-returns-2 c = search (needs, visitWays)
+returns-2 c = search (needs, sameWays)
 
 returns-3 : tie.Need-returns-3
-returns-3 c = search (needs, visitWays)
+returns-3 c = search (needs, sameWays)
 
 returns-4 : tie.Need-returns-4
-returns-4 c = search (needs, visitWays)
+returns-4 c = search (needs, sameWays)
 
 pub same-spec : {M : Type 1} → statement M
 same-spec =
