@@ -115,7 +115,7 @@ changes-are-flagged form (Evaluate ∷ calls) h = ap₂ _+_ (flag form h) (chang
 
 -- ---- the claims
 -- a C form that is not refused is a table's, and its table breaks no rule
-accepted : (form : TableForm) → refused form ≡ false → (isTable form ≡ true) × (broken (tableOf form) ≡ false)
+pub accepted : (form : TableForm) → refused form ≡ false → (isTable form ≡ true) × (broken (tableOf form) ≡ false)
 unfolding refused
 accepted form h = let n = neither (not (isTable form)) (broken (tableOf form)) h in (not-false (isTable form) (n .0), n .1)
 

@@ -9,7 +9,7 @@ use Rattle.nbr_table_spec.specs.declared.Parent.{Parent}
 use Rattle.nbr_table_spec.specs.declared.Parent.the-variants.{None, Held}
 use Rattle.nbr_table_spec.specs.declared.Table.{Table}
 use Rattle.c_table_spec.specs.declared.TableForm.{TableForm}
-use Rattle.c_table_spec.specs.Table.{formOf, idOf, isTable, markOf, parentOf, tableOf}
+use Rattle.c_table_spec.specs.Table.{formOf, idOf, isParent, markOf, parentOf, tableOf}
 use Rattle.c_table_spec.specs.Claims.{FormsAreTables, TablesAreForms}
 
 -- ---- the held parent
@@ -18,8 +18,8 @@ unfolding parentOf markOf idOf
 parent-back None = refl
 parent-back (Held id) = refl
 
-is-parent : (parent : Parent) → markOf parent || eqb (idOf parent) 0 ≡ true
-unfolding markOf idOf
+is-parent : (parent : Parent) → isParent (markOf parent) (idOf parent) ≡ true
+unfolding markOf idOf isParent
 is-parent None = refl
 is-parent (Held id) = refl
 
@@ -28,16 +28,14 @@ unfolding parentOf markOf
 mark-back true id = refl
 mark-back false id = refl
 
-pub id-back : (held : Bool) (id : ℕ) → held || eqb id 0 ≡ true → idOf (parentOf held id) ≡ id
-unfolding parentOf idOf
+pub id-back : (held : Bool) (id : ℕ) → isParent held id ≡ true → idOf (parentOf held id) ≡ id
+unfolding parentOf idOf isParent
 id-back true id h = refl
 id-back false id h = sym (eqb-true id 0 h)
 
 -- ---- the table
 pub forms-are-tables : FormsAreTables
-unfolding isTable
 forms-are-tables table = (ap (λ (parent : Parent). record { places = table .places; parent = parent }) (parent-back (table .parent)), is-parent (table .parent))
 
 pub tables-are-forms : TablesAreForms
-unfolding isTable
 tables-are-forms form h = λ i. record { places = form .places; held = mark-back (form .held) (form .parent) i; parent = id-back (form .held) (form .parent) h i }

@@ -2,6 +2,7 @@
 -- mark and an identifier, which is 0 where the mark is off. Assumes nothing.
 use Prim.Native.Nat.{ℕ}
 use mathlib.Core.Bool.{Bool, true, false, not, _||_}
+use lib.ListN.{set}
 use lib.Dec.{eqb}
 use Rattle.octets_spec.specs.Choice.{ifOn}
 use Rattle.refusal.specs.Refusal.{outOfLimits}
@@ -9,6 +10,7 @@ use Rattle.nbr_table_spec.specs.declared.Parent.{Parent}
 use Rattle.nbr_table_spec.specs.declared.Parent.the-variants.{None, Held}
 use Rattle.nbr_table_spec.specs.declared.Table.{Table}
 use Rattle.nbr_table_spec.specs.declared.Answer.{Answer}
+use Rattle.nbr_table_spec.specs.declared.Change.{Change}
 use Rattle.nbr_table_spec.specs.declared.Evaluation.{Evaluation}
 use Rattle.nbr_table_spec.specs.Calls.{advertised, broken, emptyTable, evaluated, forgotten, reported, sameParent}
 use Rattle.nbr_replay_spec.specs.declared.Outcome.{Outcome}
@@ -44,9 +46,13 @@ formOf table = record { places = table .places; held = markOf (table .parent); p
 abbrev pub tableOf : TableForm → Table
 tableOf form = record { places = form .places; parent = parentOf (form .held) (form .parent) }
 
--- a C form is a table's, unless it has an identifier where no parent is held
-unfoldable pub isTable : TableForm → Bool
-isTable form = form .held || eqb (form .parent) 0
+-- a mark and an identifier are a held parent or none, unless there is an identifier where none is held
+unfoldable pub isParent : Bool → ℕ → Bool
+isParent held id = held || eqb id 0
+
+-- such a C form is a table's
+abbrev pub isTable : TableForm → Bool
+isTable form = isParent (form .held) (form .parent)
 
 -- every call refuses a C form with 8 that is no table's, or whose table breaks a rule
 unfoldable pub refused : TableForm → Bool
@@ -120,3 +126,11 @@ replayRefusal form =
 -- replay
 unfoldable pub replayedForm : TableForm → Log → ReplayAnswer
 replayedForm form log = ifOn (isTable form) (outcomeForm (replayed (tableOf form) log)) (replayRefusal form)
+
+-- ---- how the code goes: one place of the C form is replaced, past the end none
+abbrev pub storedForm : TableForm → Change → TableAnswer
+storedForm form change =
+    record {
+      number = change .number;
+      table = record { places = set (form .places) (change .at) (change .place); held = form .held; parent = form .parent };
+    }

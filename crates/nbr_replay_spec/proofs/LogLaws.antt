@@ -10,15 +10,11 @@ use lib.ListN.{length, getD, drop, drop-of-length-le}
 use lib.Seq.{drop-cons}
 use lib.Dec.{eqb, ltb}
 use borrow.Author.Tests.{eq-eqb, ne-eqb, eqb-true, lt-ltb, le-ltb, ltb-false, not-false}
-use Rattle.octets_spec.specs.Choice.{ifEq}
 use Rattle.nbr_metric_spec.proofs.MetricLaws.{both}
 use Rattle.nbr_table_spec.proofs.PlaceLaws.{neither}
-use Rattle.nbr_table_spec.specs.declared.Answer.{Answer}
-use Rattle.nbr_table_spec.specs.declared.Evaluation.{Evaluation}
 use Rattle.nbr_table_spec.specs.declared.Table.{Table}
-use Rattle.nbr_table_spec.specs.Calls.{advertised, evaluated, forgotten, reported}
-use Rattle.nbr_stability_spec.specs.Stability.{after}
-use Rattle.nbr_replay_spec.specs.Log.{Log, call, equallyLong, log, someOver, unfitLog}
+use Rattle.nbr_table_spec.specs.Calls.{broken}
+use Rattle.nbr_replay_spec.specs.Log.{Log, equallyLong, log, someOver, unfitLog}
 
 -- ---- which logs are refused
 module _ (m : ℕ) (xs : List ℕ) (i : ℕ) (w : Bool) where
@@ -75,34 +71,12 @@ module _ (l : Log) (x : Bool) (e : x ≡ unfitLog l) (u : x ≡ false) where
       let n₂ = neither (ltb 65535 (length (l .kinds))) (someOver 3 (l .kinds) || someOver 1 (l .flags)) (n₁ .1) in
       (not-false (equallyLong l) (n₁ .0), ltb-false 65535 (length (l .kinds)) (n₂ .0))
 
-pub run-ready : (ks ns vs fs : List ℕ) (x : Bool) → x ≡ unfitLog (log ks ns vs fs) → x ≡ false → (length ns ≡ length ks) × (length vs ≡ length ks) × (length fs ≡ length ks) × (length ks ≤ 65535)
+pub run-ready : (t : Table) (ks ns vs fs : List ℕ) (x y : Bool) → y ≡ broken t → y ≡ false → x ≡ unfitLog (log ks ns vs fs) → x ≡ false → (length ns ≡ length ks) × (length vs ≡ length ks) × (length fs ≡ length ks) × (length ks ≤ 65535) × (broken t ≡ false)
 unfolding equallyLong
-run-ready ks ns vs fs x e u =
+run-ready t ks ns vs fs x y g h e u =
     let f = fits (log ks ns vs fs) x e u in
     let b₁ = both (eqb (length ns) (length ks)) (eqb (length vs) (length ks) && eqb (length fs) (length ks)) (f .0) in
     let b₂ = both (eqb (length vs) (length ks)) (eqb (length fs) (length ks)) (b₁ .1) in
-    (eqb-true (length ns) (length ks) (b₁ .0), eqb-true (length vs) (length ks) (b₂ .0), eqb-true (length fs) (length ks) (b₂ .1), f .1)
-
--- ---- the call of a row
-module _ (t : Table) (kind n value flag : ℕ) where
-  pub call-advertise : (a : Answer) → kind ≡ 0 → a ≡ advertised t n value → a .table ≡ after t (call kind n value flag)
-  unfolding call ifEq after
-  call-advertise a k e = rw k (ap (λ (z : Answer). z .table) e)
-
-  module _ (o : kind ≡ 0 → ⊥) where
-    pub call-report : (a : Answer) → kind ≡ 1 → a ≡ reported t n value (eqb flag 1) → a .table ≡ after t (call kind n value flag)
-    unfolding call ifEq after
-    call-report a k e = rw k (ap (λ (z : Answer). z .table) e)
-
-    module _ (p : kind ≡ 1 → ⊥) where
-      pub call-forget : (a : Answer) → kind ≡ 2 → a ≡ forgotten t n → a .table ≡ after t (call kind n value flag)
-      unfolding call ifEq after
-      call-forget a k e = rw k (ap (λ (z : Answer). z .table) e)
-
-      pub call-evaluate : (a : Evaluation) → (kind ≡ 2 → ⊥) → a ≡ evaluated t → a .table ≡ after t (call kind n value flag)
-      unfolding call ifEq after
-      call-evaluate a k e = rw (ne-eqb kind 0 o, ne-eqb kind 1 p, ne-eqb kind 2 k) (ap (λ (z : Evaluation). z .table) e)
+    (eqb-true (length ns) (length ks) (b₁ .0), eqb-true (length vs) (length ks) (b₂ .0), eqb-true (length fs) (length ks) (b₂ .1), f .1, sym g ∙ h)
 
 pub ruleset logWays = (over-next, over-found, over-end, equal-last, equal-values, equal-ids, unfit-unequal, unfit-long, unfit-kind, unfit-flag)
-
-pub ruleset callWays = (call-advertise, call-report, call-forget, call-evaluate)

@@ -1,8 +1,8 @@
 -- What one call more at the end of a list does to each count. Assumes nothing.
-use Prim.Native.Nat.{_+_, _-_}
+use Prim.Native.Nat.{ℕ, _+_, _-_}
 use native.Mathlib.Omega.{arith}
 use mathlib.Core.Path.{_≡_, refl, sym, ap, _∙_}
-use mathlib.Core.Bool.{cond, _&&_, and-true, and-assoc}
+use mathlib.Core.Bool.{Bool, cond, _&&_, and-true, and-assoc}
 use mathlib.Core.List.{List, [], _∷_, _++_, append-nil}
 use lib.ListN.{length, length-append}
 use Rattle.octets_spec.specs.Choice.{ifEq}
@@ -13,7 +13,8 @@ use Rattle.nbr_table_spec.specs.Calls.{held, heldCost, sameParent}
 use Rattle.nbr_stability_spec.specs.Stability.{Call, EntryExit, after, changes, eachEligible, evaluations, firstCost, lastCost, rises}
 use Rattle.nbr_stability_spec.specs.Stability.Call.{Advertise, Report, Forget, Evaluate}
 use Rattle.nbr_replay_spec.specs.Replay.{final}
-use Rattle.nbr_replay_spec.specs.Tally.{advanced, noted, tally}
+use Rattle.nbr_replay_spec.specs.Tally.{noted, tally}
+use Rattle.nbr_replay_spec.specs.Visit.{visited}
 
 -- ---- one evaluation more
 module _ (v : EntryExit) where
@@ -49,7 +50,7 @@ module _ (v : EntryExit) where
   each-snoc (w ∷ vs) = rw (each-snoc vs) (sym (and-assoc (eligible (held (w .entry))) (eachEligible vs) (eligible (held (v .entry)))))
 
 -- ---- one call more
-final-snoc : (t : Table) (cs : List Call) (c : Call) → final t (cs ++ c ∷ []) ≡ after (final t cs) c
+pub final-snoc : (t : Table) (cs : List Call) (c : Call) → final t (cs ++ c ∷ []) ≡ after (final t cs) c
 unfolding final
 final-snoc t [] c = refl
 final-snoc t (b ∷ cs) c = final-snoc (after t b) cs c
@@ -66,10 +67,25 @@ evaluations-snoc t (Evaluate ∷ cs) c = ap (λ (vs : List EntryExit). record { 
 quiet : (t : Table) (cs : List Call) (c : Call) → evaluations (final t cs) (c ∷ []) ≡ [] → evaluations t (cs ++ c ∷ []) ≡ evaluations t cs
 quiet t cs c e = evaluations-snoc t cs c ∙ rw e (append-nil (evaluations t cs))
 
+-- the counts
 module _ (t : Table) (cs : List Call) where
-  pub tally-snoc : (c : Call) → advanced (tally t cs) c ≡ tally t (cs ++ c ∷ [])
-  unfolding tally advanced noted evaluations
-  tally-snoc (Advertise n rank) = simp (final-snoc, quiet t cs (Advertise n rank) refl)
-  tally-snoc (Report n k ok) = simp (final-snoc, quiet t cs (Report n k ok) refl)
-  tally-snoc (Forget n) = simp (final-snoc, quiet t cs (Forget n) refl)
-  tally-snoc Evaluate = simp (final-snoc, evaluations-snoc t cs Evaluate, length-append, changes-snoc, rises-snoc, first-snoc, last-snoc, each-snoc)
+  tally-of : (vs : List EntryExit) → evaluations t cs ≡ vs → (c : Call) → evaluations t (cs ++ c ∷ []) ≡ vs → tally t cs ≡ tally t (cs ++ c ∷ [])
+  unfolding tally
+  tally-of vs e c f =
+      ap (λ (v : List EntryExit). record { evaluations = length v; changes = changes v; rises = rises v; first = firstCost v; last = lastCost v; applies = eachEligible v }) (e ∙ sym f)
+
+  pub tally-advertise : (n rank : ℕ) → tally t cs ≡ tally t (cs ++ Advertise n rank ∷ [])
+  unfolding evaluations
+  tally-advertise n rank = tally-of (evaluations t cs) refl (Advertise n rank) (quiet t cs (Advertise n rank) refl)
+
+  pub tally-report : (n k : ℕ) (ok : Bool) → tally t cs ≡ tally t (cs ++ Report n k ok ∷ [])
+  unfolding evaluations
+  tally-report n k ok = tally-of (evaluations t cs) refl (Report n k ok) (quiet t cs (Report n k ok) refl)
+
+  pub tally-forget : (n : ℕ) → tally t cs ≡ tally t (cs ++ Forget n ∷ [])
+  unfolding evaluations
+  tally-forget n = tally-of (evaluations t cs) refl (Forget n) (quiet t cs (Forget n) refl)
+
+  pub tally-evaluate : noted (tally t cs) (visited (final t cs) (after (final t cs) Evaluate)) ≡ tally t (cs ++ Evaluate ∷ [])
+  unfolding tally noted evaluations
+  tally-evaluate = simp (evaluations-snoc t cs Evaluate, length-append, changes-snoc, rises-snoc, first-snoc, last-snoc, each-snoc)

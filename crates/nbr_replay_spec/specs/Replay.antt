@@ -1,7 +1,7 @@
 -- What a log of calls comes to, in the words of the claim that parents do not flap (docs/RULES.md, Parents do not flap). Assumes
 -- nothing.
 use Prim.Native.Nat.{ℕ}
-use mathlib.Core.Bool.{Bool, false}
+use mathlib.Core.Bool.{false}
 use mathlib.Core.List.{List, [], _∷_}
 use lib.ListN.{length}
 use Rattle.octets_spec.specs.Choice.{ifOn}
@@ -17,17 +17,14 @@ unfoldable pub final : Table → List Call → Table
 final t [] = t
 final t (c ∷ cs) = final (after t c) cs
 
--- nothing counted
-abbrev pub nothing : ℕ → Table → Bool → Outcome
-nothing number t x = record { number = number; table = t; evaluations = 0; changes = 0; rises = 0; first = 0; last = 0; applies = x }
-
 -- a refusal: the table as it was, and all counts 0
 abbrev pub refusedReplay : ℕ → Table → Outcome
-refusedReplay number t = nothing number t false
+refusedReplay number t =
+    record { number = number; table = t; evaluations = 0; changes = 0; rises = 0; first = 0; last = 0; applies = false }
 
--- what is counted over a list of calls
-abbrev pub outcomeWith : Table → List Call → Bool → Outcome
-outcomeWith t cs x =
+-- what a list of calls comes to
+abbrev pub outcome : Table → List Call → Outcome
+outcome t cs =
     record {
       number = done;
       table = final t cs;
@@ -36,12 +33,8 @@ outcomeWith t cs x =
       rises = rises (evaluations t cs);
       first = firstCost (evaluations t cs);
       last = lastCost (evaluations t cs);
-      applies = x;
+      applies = applies t cs;
     }
-
--- what a list of calls comes to
-abbrev pub outcome : Table → List Call → Outcome
-outcome t cs = outcomeWith t cs (applies t cs)
 
 -- the answer: a table or a log that is refused is 8
 unfoldable pub replayed : Table → Log → Outcome

@@ -53,35 +53,37 @@ module _ (b p : Place) where
   lower-better k =
       by-test (eligible p)
       (λ e.
-          let v = offer-eligible p e in
-          by-test (eligible b)
-          (λ f.
-              let w = offer-eligible b f in
-              let give : (z : Place) → eligible z ≡ true → z ≡ nearer b p → offerOf z ≡ lower (offerOf b) (offerOf p) → (lower (offerOf b) (offerOf p) ≡ offerOf (better b p)) × Kept (better b p) =
-              (λ z g n o. let m = better-both b p (eligible p) (eligible b) z refl e refl f n in (sym o ∙ ap offerOf m, inl (subst (λ (y : Place). eligible y ≡ true) m g))) in
-              by-lt (pathCost p) (pathCost b)
-              (λ l. give p e (nearer-cost b p (pathCost p) (pathCost b) refl refl l) (lower-cost (offerOf b) (offerOf p) (omega arith)))
-              (λ l.
-                  by-lt (pathCost b) (pathCost p)
-                  (λ m. give b f (nearer-held b p (pathCost p) (pathCost b) refl refl l m) (lower-kept (offerOf b) (offerOf p) (omega arith) (omega arith)))
-                  (λ m.
-                      by-lt (p .id) (b .id)
-                      (λ i. give p e (nearer-id b p (pathCost p) (pathCost b) refl refl l m i) (lower-id (offerOf b) (offerOf p) (omega arith) (omega arith) i))
-                      (λ i. give b f (nearer-tie b p (pathCost p) (pathCost b) refl refl l m i) (lower-tie (offerOf b) (offerOf p) (omega arith) (omega arith) i)))))
-          (λ f.
-              let m = better-new b p (eligible p) (eligible b) refl e refl f in
-              let w = offer-not b f in
-              let t = cost-to p e in
-              (sym (lower-cost (offerOf b) (offerOf p) (omega arith)) ∙ ap offerOf m, inl (subst (λ (y : Place). eligible y ≡ true) m e))))
+      let v = offer-eligible p e in
+      by-test (eligible b)
+      (λ f.
+      let w = offer-eligible b f in
+      let give : (z : Place) → eligible z ≡ true → z ≡ nearer b p → offerOf z ≡ lower (offerOf b) (offerOf p) → (lower (offerOf b) (offerOf p) ≡ offerOf (better b p)) × Kept (better b p) =
+      (λ z g n o. let m = better-both b p (eligible p) (eligible b) z refl e refl f n in (sym o ∙ ap offerOf m, inl (subst (λ (y : Place). eligible y ≡ true) m g))) in
+      by-lt (pathCost p) (pathCost b)
+      (λ l. give p e (nearer-cost b p (pathCost p) (pathCost b) refl refl l) (lower-cost (offerOf b) (offerOf p) (omega arith)))
+      (λ l.
+      by-lt (pathCost b) (pathCost p)
+      (λ m. give b f (nearer-held b p (pathCost p) (pathCost b) refl refl l m) (lower-kept (offerOf b) (offerOf p) (omega arith) (omega arith)))
+      (λ m.
+      by-lt (p .id) (b .id)
+      (λ i. give p e (nearer-id b p (pathCost p) (pathCost b) refl refl l m i) (lower-id (offerOf b) (offerOf p) (omega arith) (omega arith) i))
+      (λ i. give b f (nearer-tie b p (pathCost p) (pathCost b) refl refl l m i) (lower-tie (offerOf b) (offerOf p) (omega arith) (omega arith) i)))))
+      (λ f.
+      let m = better-new b p (eligible p) (eligible b) refl e refl f in
+      let w = offer-not b f in
+      let t = cost-to p e in
+      (sym (lower-cost (offerOf b) (offerOf p) (omega arith)) ∙ ap offerOf m, inl (subst (λ (y : Place). eligible y ≡ true) m e))))
       (λ e.
-          let m = better-old b p (eligible p) (eligible b) refl e in
-          let v = offer-not p e in
-          (⊎-elim
-          (λ f. let w = offer-eligible b f in let t = cost-to b f in sym (lower-kept (offerOf b) (offerOf p) (omega arith) (omega arith)))
-          (λ f.
-              let w : offer b ≡ 65535 = ap offer f ∙ blank-offers in
-              let o : b .id ≡ 0 = ap (λ (z : Place). z .id) f in
-              sym (lower-tie (offerOf b) (offerOf p) (omega arith) (omega arith) (omega arith))) k ∙ ap offerOf m, subst Kept m k))
+      let m = better-old b p (eligible p) (eligible b) refl e in
+      let v = offer-not p e in (
+        ⊎-elim
+            (λ f. let w = offer-eligible b f in let t = cost-to b f in sym (lower-kept (offerOf b) (offerOf p) (omega arith) (omega arith)))
+            (λ f.
+            let w : offer b ≡ 65535 = ap offer f ∙ blank-offers in
+            let o : b .id ≡ 0 = ap (λ (z : Place). z .id) f in
+            sym (lower-tie (offerOf b) (offerOf p) (omega arith) (omega arith) (omega arith))) k ∙ ap offerOf m,
+        subst Kept m k,
+      ))
 
 lowest-best : (b : Place) (ps : List Place) → Kept b → lowest (offerOf b) ps ≡ offerOf (bestOf b ps)
 unfolding lowest bestOf

@@ -104,16 +104,16 @@ module _ (t : Table) (b : broken t ≡ false) (l : length (t .places) ≡ 32) wh
         let ps = t .places in
         by-lt (indexOf n ps) 32
         (λ w.
-            by-change _ (e ∙ sym (advertising-known ps n (indexOf n ps) refl w rank _ refl)) h
-            ∙ advertised-known t n (broken t) refl b (indexOf n ps) refl l w rank _ _ refl refl)
+        by-change _ (e ∙ sym (advertising-known ps n (indexOf n ps) refl w rank _ refl)) h
+        ∙ advertised-known t n (broken t) refl b (indexOf n ps) refl l w rank _ _ refl refl)
         (λ w.
-            by-lt (freeIndex ps) 32
-            (λ f.
-                by-change _ (e ∙ sym (advertising-new ps n (indexOf n ps) refl w (freeIndex ps) refl rank _ f refl)) h
-                ∙ advertised-new t n (broken t) refl b (indexOf n ps) refl l w (freeIndex ps) refl rank _ _ f refl refl)
-            (λ f.
-                by-change (refusing 11) (e ∙ sym (advertising-full ps n (indexOf n ps) refl w (freeIndex ps) refl rank (refusing 11) f refl)) h
-                ∙ nothing-stored 11 ∙ advertised-full t n (broken t) refl b (indexOf n ps) refl l w (freeIndex ps) refl rank f))
+        by-lt (freeIndex ps) 32
+        (λ f.
+        by-change _ (e ∙ sym (advertising-new ps n (indexOf n ps) refl w (freeIndex ps) refl rank _ f refl)) h
+        ∙ advertised-new t n (broken t) refl b (indexOf n ps) refl l w (freeIndex ps) refl rank _ _ f refl refl)
+        (λ f.
+        by-change (refusing 11) (e ∙ sym (advertising-full ps n (indexOf n ps) refl w (freeIndex ps) refl rank (refusing 11) f refl)) h
+        ∙ nothing-stored 11 ∙ advertised-full t n (broken t) refl b (indexOf n ps) refl l w (freeIndex ps) refl rank f))
 
     pub reported-by : (k : ℕ) (ok : Bool) → c ≡ reporting (t .places) n k ok → v ≡ stored t c → answer (c .number) v ≡ reported t n k ok
     reported-by k ok e h =
@@ -121,16 +121,16 @@ module _ (t : Table) (b : broken t ≡ false) (l : length (t .places) ≡ 32) wh
         by-lt k 1
         (λ g. by-change (refusing 8) (e ∙ sym (reporting-none ps n k ok (refusing 8) refl g)) h ∙ nothing-stored 8 ∙ reported-none t n (broken t) refl b k ok g)
         (λ g.
-            by-lt 4 k
-            (λ m. by-change (refusing 8) (e ∙ sym (reporting-many ps n k ok (refusing 8) refl g m)) h ∙ nothing-stored 8 ∙ reported-many t n (broken t) refl b k ok g m)
-            (λ m.
-                by-lt (indexOf n ps) 32
-                (λ w.
-                    by-change _ (e ∙ sym (reporting-known ps n (indexOf n ps) refl w k ok false g m (sym (all-fit (indexOf n ps))) _ refl refl)) h
-                    ∙ reported-known t n (broken t) refl b (indexOf n ps) refl l w k ok _ _ g m refl refl)
-                (λ w.
-                    by-change (refusing 10) (e ∙ sym (reporting-unknown ps n (indexOf n ps) refl w k ok (refusing 10) g m refl)) h
-                    ∙ nothing-stored 10 ∙ reported-unknown t n (broken t) refl b (indexOf n ps) refl l w k ok g m)))
+        by-lt 4 k
+        (λ m. by-change (refusing 8) (e ∙ sym (reporting-many ps n k ok (refusing 8) refl g m)) h ∙ nothing-stored 8 ∙ reported-many t n (broken t) refl b k ok g m)
+        (λ m.
+        by-lt (indexOf n ps) 32
+        (λ w.
+        by-change _ (e ∙ sym (reporting-known ps n (indexOf n ps) refl w k ok false g m (sym (all-fit (indexOf n ps))) _ refl refl)) h
+        ∙ reported-known t n (broken t) refl b (indexOf n ps) refl l w k ok _ _ g m refl refl)
+        (λ w.
+        by-change (refusing 10) (e ∙ sym (reporting-unknown ps n (indexOf n ps) refl w k ok (refusing 10) g m refl)) h
+        ∙ nothing-stored 10 ∙ reported-unknown t n (broken t) refl b (indexOf n ps) refl l w k ok g m)))
 
     pub forgotten-by : (q : Parent) (z : Table) → c ≡ forgetting (t .places) n → q ≡ without n (t .parent) → v ≡ stored t c → z ≡ withParent v q → answer (c .number) z ≡ forgotten t n
     unfolding broken
@@ -144,12 +144,12 @@ module _ (t : Table) (b : broken t ≡ false) (l : length (t .places) ≡ 32) wh
         (λ d r. k ∙ ap (λ (y : Change). answer (y .number) (withParent (stored t y) (without n (t .parent)))) r) in
         by-lt (indexOf n ps) 32
         (λ w.
-            m _ (e ∙ sym (forgetting-known ps n (indexOf n ps) refl w blank refl))
-            ∙ forgotten-known t n (broken t) refl b (indexOf n ps) refl l w (without n (t .parent)) _ _ blank refl refl refl refl)
+        m _ (e ∙ sym (forgetting-known ps n (indexOf n ps) refl w blank refl))
+        ∙ forgotten-known t n (broken t) refl b (indexOf n ps) refl l w (without n (t .parent)) _ _ blank refl refl refl refl)
         (λ w.
-            m (refusing 10) (e ∙ sym (forgetting-unknown ps n (indexOf n ps) refl w (refusing 10) refl))
-            ∙ ap (λ (y : Parent). answer 10 (withParent (stored t (refusing 10)) y)) (without-unknown n (t .parent) (n₂ .1) (some-missing (named n) ps (indexOf n ps) 32 refl l w))
-            ∙ nothing-stored 10 ∙ forgotten-unknown t n (broken t) refl b (indexOf n ps) refl l w)
+        m (refusing 10) (e ∙ sym (forgetting-unknown ps n (indexOf n ps) refl w (refusing 10) refl))
+        ∙ ap (λ (y : Parent). answer 10 (withParent (stored t (refusing 10)) y)) (without-unknown n (t .parent) (n₂ .1) (some-missing (named n) ps (indexOf n ps) 32 refl l w))
+        ∙ nothing-stored 10 ∙ forgotten-unknown t n (broken t) refl b (indexOf n ps) refl l w)
 
 -- the same where a test of the code said that no rule is broken
 module _ (t : Table) (x : Bool) (a : x ≡ broken t) (u : x ≡ false) (l : length (t .places) ≡ 32) (n : ℕ) (c : Change) (v : Table) (h : v ≡ stored t c) where

@@ -8,10 +8,16 @@ use Rattle.c_table_spec.proofs.theorems.Tie as tie
 returns : tie.Need-returns
 returns c = (
   forms-are-tables,
-  (tables-are-forms,
-  (refusals-change-nothing,
-  (calls-agree,
-  (evaluations-agree, (changes-are-flagged, (parents-do-not-flap-in-c, (at-most-101-changes-in-c, (none-refused-in-c, witnessed)))))))),
+  (
+    tables-are-forms,
+    (
+      refusals-change-nothing,
+      (
+        calls-agree,
+        (evaluations-agree, (changes-are-flagged, (parents-do-not-flap-in-c, (at-most-101-changes-in-c, (none-refused-in-c, witnessed))))),
+      ),
+    ),
+  ),
 )
 
 pub theorems-spec : {M : Type 1} → statement M
