@@ -4,7 +4,8 @@
  *     cc -std=c99 -I include examples/tag.c target/staticlib/libtesolvagna.a -o target/tag
  *     target/tag examples/joining.frame
  *
- * The library allocates nothing and keeps nothing: records and tables go by value. Every answer that can be a refusal has a
+ * The library allocates nothing and keeps nothing: records and tables go by value. Every answer that can be a refusal
+ * has a
  * number, TESOLVAGNA_DONE or the reason why not.
  */
 #include "tesolvagna.h"
@@ -35,8 +36,8 @@ static void show_beacon(const struct tesolvagna_beacon *beacon)
     printf("ASN %" PRIu64 ", join metric %d\n", beacon->synchronization.asn, beacon->synchronization.join_metric);
     printf("timeslot template %d", timeslot->template_id);
     if (timeslot->has_timings)
-        printf(", %" PRIu32 " us long, transmit after %" PRIu32 " us", timeslot->timings[TESOLVAGNA_TIMING_TIMESLOT_LENGTH],
-               timeslot->timings[TESOLVAGNA_TIMING_TX_OFFSET]);
+        printf(", %" PRIu32 " us long, transmit after %" PRIu32 " us",
+               timeslot->timings[TESOLVAGNA_TIMING_TIMESLOT_LENGTH], timeslot->timings[TESOLVAGNA_TIMING_TX_OFFSET]);
     printf("\nhopping sequence %d, slotframe %d of %d slots\n", beacon->hopping_sequence_id, beacon->slotframe.handle,
            beacon->slotframe.size);
     if (joining->present)

@@ -4,12 +4,12 @@
  *
  * Link with libtesolvagna.a: x86-64 only, with the System V calling convention.
  *
- * Every function answers on every input. Records, tables and answers are structs that go by value: the library allocates
- * nothing and keeps nothing. Only these are lent to it: received bytes, a list of links and a log, which it reads, and a
- * buffer for a frame, which it writes when the frame is done and never on a refusal.
+ * Every function answers on every input. Records, tables and answers are structs that go by value: the library
+ * allocates nothing and keeps nothing. Only these are lent to it: received bytes, a list of links and a log, which it
+ * reads, and a buffer for a frame, which it writes when the frame is done and never on a refusal.
  *
- * What a caller owes is what C itself asks for: a pointer is aligned and valid for as many entries as the length behind it
- * says, and a bool is 0 or 1. With the length 0 a pointer may be NULL.
+ * What a caller owes is what C itself asks for: a pointer is aligned and valid for as many entries as the length
+ * behind it says, and a bool is 0 or 1. With the length 0 a pointer may be NULL.
  *
  * The first field of an answer that can be a refusal is its number: TESOLVAGNA_DONE, or which rule the input broke. The
  * padding of a struct holds nothing: compare fields, not memory.
@@ -84,9 +84,13 @@ enum tesolvagna_limit {
 
 /* The bits of a link's options. The slot decision looks at the first two only. */
 enum tesolvagna_option {
+    /* The node may transmit. */
     TESOLVAGNA_OPTION_TRANSMIT = 1,
+    /* The node listens. */
     TESOLVAGNA_OPTION_RECEIVE = 2,
+    /* Several nodes may transmit. */
     TESOLVAGNA_OPTION_SHARED = 4,
+    /* The node keeps its time by the neighbour. */
     TESOLVAGNA_OPTION_TIMEKEEPING = 8
 };
 
@@ -122,7 +126,7 @@ enum tesolvagna_timing {
 struct tesolvagna_link {
     /* The slot of the slotframe, counted from 0; below the slotframe's size. */
     uint16_t timeslot;
-    /* Any number. */
+    /* The channel offset, any number. */
     uint16_t channel_offset;
     /* enum tesolvagna_option. On air this is one byte, all of which is kept: writing refuses a number over 255. */
     uint16_t options;
@@ -130,8 +134,9 @@ struct tesolvagna_link {
 
 /* The TSCH synchronization information element. */
 struct tesolvagna_synchronization {
-    /* The absolute slot number, at most 2^40 - 1. */
+    /* The absolute slot number (ASN), at most 2^40 - 1. */
     uint64_t asn;
+    /* The join metric. */
     uint8_t join_metric;
 };
 
@@ -147,12 +152,13 @@ struct tesolvagna_timeslot {
 
 /* The TSCH slotframe and link information element, of one slotframe. */
 struct tesolvagna_slotframe {
+    /* The slotframe's handle. */
     uint8_t handle;
     /* How many slots the slotframe has, at least 1. */
     uint16_t size;
-    /* 1 to 16. */
+    /* How many links it has, 1 to 16. */
     uint8_t link_count;
-    /* All 0 from link_count on. */
+    /* The links, all 0 from link_count on. */
     struct tesolvagna_link links[TESOLVAGNA_MOST_LINKS];
 };
 
@@ -164,16 +170,17 @@ struct tesolvagna_joining {
     bool router;
     /* The P flag: whether there is the address of a join proxy. */
     bool proxied;
-    /* At most 127. */
+    /* The proxy priority, at most 127. */
     uint8_t proxy_priority;
-    /* At most 4095. */
+    /* The rank priority, at most 4095. */
     uint16_t rank_priority;
+    /* The PAN priority. */
     uint8_t pan_priority;
     /* The join proxy's address as a number, most significant byte first on air; 0 without the P flag. */
     uint64_t proxy_address;
-    /* At most 16. */
+    /* How many bytes the network ID has, at most 16. */
     uint8_t network_id_length;
-    /* All 0 from network_id_length on. */
+    /* The network ID, all 0 from network_id_length on. */
     uint8_t network_id[TESOLVAGNA_NETWORK_ID_BYTES];
 };
 
@@ -181,37 +188,47 @@ struct tesolvagna_joining {
 struct tesolvagna_beacon {
     /* Whether there is a sequence number; 0 is one too. */
     bool has_sequence_number;
-    /* 0 without one. */
+    /* The sequence number, 0 without one. */
     uint8_t sequence_number;
+    /* The PAN ID. */
     uint16_t pan_id;
     /* Whether the source is an extended address (64 bits) and not a short one (16 bits). */
     bool source_is_extended;
     /* The source address as a number; a short one is at most 65535. */
     uint64_t source;
+    /* ASN and join metric. */
     struct tesolvagna_synchronization synchronization;
+    /* The timeslot template. */
     struct tesolvagna_timeslot timeslot;
-    /* From the channel hopping information element. */
+    /* The hopping sequence ID, from the channel hopping information element. */
     uint8_t hopping_sequence_id;
+    /* The slotframe and its links. */
     struct tesolvagna_slotframe slotframe;
+    /* Joining information, if the beacon has it. */
     struct tesolvagna_joining joining;
 };
 
-/* A reading: the record, or the blank record with the number of the refusal. */
+/* What reading a frame gives. */
 struct tesolvagna_reading {
+    /* enum tesolvagna_number */
     uint8_t number;
+    /* The frame's record; the blank record on a refusal. */
     struct tesolvagna_beacon beacon;
 };
 
-/* A writing: how many bytes the frame has, 0 on a refusal. */
+/* What writing a record gives. */
 struct tesolvagna_written {
+    /* enum tesolvagna_number */
     uint8_t number;
+    /* How many bytes the frame has, 0 on a refusal. */
     size_t length;
 };
 
 /* A part of a frame. */
 struct tesolvagna_span {
-    /* Counted from the frame's first byte. */
+    /* Where it starts, counted from the frame's first byte. */
     size_t offset;
+    /* How many bytes it has. */
     size_t length;
 };
 
@@ -282,16 +299,17 @@ struct tesolvagna_reading tesolvagna_beacon_read(const uint8_t *frame, size_t le
  * A record that was read is within the limits, and takes no more bytes than its frame had. The blank record is outside:
  * it has size 0 and no link.
  *
- * The frame: frame control with type 0, version 2, PAN ID compression and information elements present, and no other flag
- * than that of a suppressed sequence number; sequence number if there is one; PAN ID; destination 0xFFFF; source; header
- * element 0x7E; one MLME group of synchronization, timeslot, channel hopping, and slotframe and link; joining information,
- * if present, in an IETF group; no group 15. Timings take the form of 25 bytes if both of the last two fit in 2 bytes, else
- * that of 27. `tesolvagna_beacon_read` gives the same record for it.
+ * The frame: frame control with type 0, version 2, PAN ID compression and information elements present, and no other
+ * flag than that of a suppressed sequence number; sequence number if there is one; PAN ID; destination 0xFFFF;
+ * source; header element 0x7E; one MLME group of synchronization, timeslot, channel hopping, and slotframe and link;
+ * joining information, if present, in an IETF group; no group 15. Timings take the form of 25 bytes if both of the
+ * last two fit in 2 bytes, else that of 27. `tesolvagna_beacon_read` gives the same record for it.
  */
-struct tesolvagna_written tesolvagna_beacon_write(uint8_t *buffer, size_t buffer_length, struct tesolvagna_beacon beacon);
+struct tesolvagna_written tesolvagna_beacon_write(uint8_t *buffer, size_t buffer_length,
+                                                  struct tesolvagna_beacon beacon);
 
 /*
- * Where a frame has its network ID, whose bytes need not be copied then.
+ * Finds the network ID in a frame, for a caller that does not want to copy it.
  *
  * frame, length   the received bytes; never written
  *
@@ -310,23 +328,24 @@ struct tesolvagna_neighbour {
     uint64_t id;
     /* The rank that it advertised. */
     uint16_t rank;
-    /* How often a frame was sent to it, at most 255. */
+    /* The attempts to send to it that are counted, at most 255. */
     uint16_t attempts;
-    /* How many of these were acknowledged, at most `attempts`. */
+    /* The acknowledgements that are counted, at most `attempts`. */
     uint16_t acknowledged;
     /* Whether a neighbour has the place. */
     bool in_use;
 };
 
 /*
- * The neighbours and the held parent. `tesolvagna_table_init` gives a table to start with, and each call gives back the one
- * to go on with: `table = answer.table` is right after a refusal too.
+ * The neighbours and the held parent. `tesolvagna_table_init` gives a table to start with, and each call gives back
+ * the one to go on with: `table = answer.table` is right after a refusal too.
  *
- * Every call refuses with 8, and gives back as it is, a table with attempts over 255, more acknowledged than attempts, a
- * free place that is not all 0, an identifier at two places in use, a held parent that is at none of them, or a `parent`
- * that is not 0 where none is held.
+ * Every call refuses with 8, and gives back as it is, a table with attempts over 255, more acknowledged than
+ * attempts, a free place that is not all 0, an identifier at two places in use, a held parent that is at none of
+ * them, or a `parent` that is not 0 where none is held.
  */
 struct tesolvagna_table {
+    /* The places, free or in use. */
     struct tesolvagna_neighbour neighbours[TESOLVAGNA_NEIGHBOURS];
     /* Whether a parent is held. */
     bool has_parent;
@@ -334,14 +353,17 @@ struct tesolvagna_table {
     uint64_t parent;
 };
 
-/* A call's number, and the table after the call: on a refusal the one that was given. */
+/* What a call gives. */
 struct tesolvagna_table_answer {
+    /* enum tesolvagna_number */
     uint8_t number;
+    /* The table after the call; on a refusal the one that was given. */
     struct tesolvagna_table table;
 };
 
 /* What an evaluation gives. */
 struct tesolvagna_evaluation {
+    /* enum tesolvagna_number */
     uint8_t number;
     /* Whether another parent is held than before; none counts as a value of its own. */
     bool changed;
@@ -349,16 +371,21 @@ struct tesolvagna_evaluation {
     uint16_t rank;
     /* Whether a parent is held now. */
     bool has_parent;
-    /* Its identifier, 0 without one. These two are those of `table`. */
+    /* Its identifier, 0 without one. These two are also in `table`. */
     uint64_t parent;
+    /* The table after the call; on a refusal the one that was given. */
     struct tesolvagna_table table;
 };
 
 /* The calls of a log. */
 enum tesolvagna_call {
+    /* tesolvagna_table_advertise */
     TESOLVAGNA_CALL_ADVERTISE = 0,
+    /* tesolvagna_table_report */
     TESOLVAGNA_CALL_REPORT = 1,
+    /* tesolvagna_table_forget */
     TESOLVAGNA_CALL_FORGET = 2,
+    /* tesolvagna_table_evaluate */
     TESOLVAGNA_CALL_EVALUATE = 3
 };
 
@@ -369,9 +396,11 @@ enum tesolvagna_call {
  * Where `applies` is true, 641 * changes + last_cost <= first_cost + rises, and changes <= 101 if rises is 0.
  */
 struct tesolvagna_replay {
+    /* enum tesolvagna_number */
     uint8_t number;
     /* Whether there was an evaluation, and the parent held on entry to each one was eligible there. */
     bool applies;
+    /* How many evaluations there were. */
     uint32_t evaluations;
     /* How many evaluations changed the held parent. */
     uint32_t changes;
@@ -382,7 +411,7 @@ struct tesolvagna_replay {
     uint32_t first_cost;
     /* The held parent's cost on exit from the last evaluation, 0 without an evaluation. */
     uint32_t last_cost;
-    /* The table after the last call. */
+    /* The table after the last call; on a refusal the one that was given. */
     struct tesolvagna_table table;
 };
 
@@ -401,8 +430,8 @@ struct tesolvagna_table tesolvagna_table_init(void);
 struct tesolvagna_table_answer tesolvagna_table_advertise(struct tesolvagna_table table, uint64_t id, uint16_t rank);
 
 /*
- * Counts 1 to 4 attempts to send a frame to neighbour `id`, and one acknowledgement if `acknowledged` is true. Where the
- * attempts would pass 255, both counters of the neighbour are halved first, rounding down.
+ * Counts 1 to 4 attempts to send a frame to neighbour `id`, and one acknowledgement if `acknowledged` is true. Where
+ * the attempts would pass 255, both counters of the neighbour are halved first, rounding down.
  *
  * number 0    done
  * number 8    the table is refused, or `attempts` is not 1 to 4
@@ -427,16 +456,16 @@ struct tesolvagna_table_answer tesolvagna_table_forget(struct tesolvagna_table t
 /*
  * Chooses the parent and gives the own rank, which is the parent's cost.
  *
- * The cost of a neighbour is its rank and `tesolvagna_increment` of its counters. A neighbour is eligible with a rank of at
- * least 256, at least 1 acknowledged, 3 * attempts at most 11 * acknowledged and a cost of at most 65534. The best has
- * the least cost, and among equals the lower identifier. The held parent is changed for the best if none is held, if it
- * is not eligible, or if its cost is more than 640 over the best one's. With no eligible neighbour no parent is held and
- * the own rank is 65535; that is no refusal.
+ * The cost of a neighbour is its rank and `tesolvagna_increment` of its counters. A neighbour is eligible with a rank
+ * of at least 256, at least 1 acknowledged, 3 * attempts at most 11 * acknowledged and a cost of at most 65534. The
+ * best has the least cost, and among equals the lower identifier. The held parent is changed for the best if none is
+ * held, if it is not eligible, or if its cost is more than 640 over the best one's. With no eligible neighbour no
+ * parent is held and the own rank is 65535; that is no refusal.
  *
  * number 0   done: the table has the parent, and nothing else of it is changed
  * number 8   the table is refused
  *
- * On a refusal the rank is 65535, nothing is changed, and table and parent are given back as they are.
+ * On a refusal the rank is 65535, `changed` is false, and table and parent are given back as they are.
  */
 struct tesolvagna_evaluation tesolvagna_table_evaluate(struct tesolvagna_table table);
 
@@ -449,12 +478,12 @@ struct tesolvagna_evaluation tesolvagna_table_evaluate(struct tesolvagna_table t
  * values   the rank of an advertisement, the attempts of a report
  * flags    1 if a report was acknowledged, else 0
  *
- * Each list comes with its length. What a call does not take is not looked at, except that a flag is 0 or 1 in every row.
- * Calls that are refused stay in the log and change nothing.
+ * Each list comes with its length. What a call does not take is not looked at, except that a flag is 0 or 1 in every
+ * row. Calls that are refused stay in the log and change nothing.
  *
  * number 0   done
- * number 8   the table is refused; the lists are not equally long; there are over 65535 rows; a kind is over 3 or a flag
- *            over 1
+ * number 8   the table is refused; the lists are not equally long; there are over 65535 rows; a kind is over 3 or a
+ *            flag over 1
  *
  * On a refusal all counts are 0, `applies` is false, and the table is given back as it is.
  */
@@ -468,19 +497,23 @@ struct tesolvagna_replay tesolvagna_table_replay(struct tesolvagna_table table, 
 
 /* What a node does in a slot. */
 enum tesolvagna_action {
+    /* Nothing: the radio is off. */
     TESOLVAGNA_SLEEP = 0,
+    /* Send the frame that waits. */
     TESOLVAGNA_TRANSMIT = 1,
+    /* Wait for a frame. */
     TESOLVAGNA_LISTEN = 2
 };
 
 /* A slot decision. All but the number is 0 on a refusal. */
 struct tesolvagna_slot {
+    /* enum tesolvagna_number */
     uint8_t number;
     /* enum tesolvagna_action */
     uint8_t action;
-    /* 11 to 26, and 0 asleep. */
+    /* The channel, 11 to 26; 0 asleep. */
     uint8_t channel;
-    /* The link's place in the list, counted from 0, and 0 asleep. */
+    /* The link's place in the list, counted from 0; 0 asleep. */
     uint8_t index;
 };
 
@@ -494,12 +527,13 @@ struct tesolvagna_slot {
  * waits               whether a frame waits to be sent
  *
  * A link is active if its timeslot is `asn` mod `size`. If a frame waits and an active link has the transmit option:
- * transmit on the first such link. Else, if an active link has the receive option: listen on the first such link. Else
- * sleep. The channel is that of `tesolvagna_channel` for the link. Other option bits play no part, those over 255 neither.
+ * transmit on the first such link. Else, if an active link has the receive option: listen on the first such link.
+ * Else sleep. The channel is that of `tesolvagna_channel` for the link. Other option bits play no part, those over
+ * 255 neither.
  *
  * number 0   done
- * number 8   `size` is 0, `link_count` is not 1 to 16, a link's timeslot is not below `size`, `sequence_id` is not 0, or
- *            `asn` is over 2^40 - 1
+ * number 8   `size` is 0, `link_count` is not 1 to 16, a link's timeslot is not below `size`, `sequence_id` is not 0,
+ *            or `asn` is over 2^40 - 1
  *
  * A refusal is to sleep: action, channel and index are 0.
  */
@@ -524,9 +558,11 @@ uint8_t tesolvagna_channel(uint64_t asn, uint16_t channel_offset);
  */
 uint32_t tesolvagna_increment(uint16_t attempts, uint16_t acknowledged);
 
-/* A join metric, 0 on a refusal. */
+/* What the question for a join metric gives. */
 struct tesolvagna_metric {
+    /* enum tesolvagna_number */
     uint8_t number;
+    /* The join metric, 0 on a refusal. */
     uint8_t metric;
 };
 

@@ -1,6 +1,6 @@
 /*
- * Reads and writes beacons through the header, with records in which the fields of a struct differ. The exit status is 0 if
- * all answers are right.
+ * Reads and writes beacons through the header, with records in which the fields of a struct differ. The exit status
+ * is 0 if all answers are right.
  */
 #include "check.h"
 
@@ -179,7 +179,8 @@ static const struct example examples[] = {
 
 static const struct tesolvagna_beacon blank;
 
-static void check_beacon(const char *name, const struct tesolvagna_beacon *found, const struct tesolvagna_beacon *expected)
+static void check_beacon(const char *name, const struct tesolvagna_beacon *found,
+                         const struct tesolvagna_beacon *expected)
 {
     const struct tesolvagna_joining *joining = &found->joining, *wanted = &expected->joining;
     size_t i;
@@ -233,7 +234,8 @@ static void reading(const struct example *example)
 {
     static const struct tesolvagna_span none;
 
-    check_reading(example->name, example->frame, example->length, TESOLVAGNA_DONE, &example->beacon, example->network_id);
+    check_reading(example->name, example->frame, example->length, TESOLVAGNA_DONE, &example->beacon,
+                  example->network_id);
     check_reading("without its last byte", example->frame, example->length - 1, TESOLVAGNA_CUT, &blank, none);
 }
 
@@ -249,7 +251,7 @@ static void refused_readings(void)
     check_reading("a byte longer", zeros, TESOLVAGNA_LONGEST_FRAME + 1, TESOLVAGNA_FRAME_TOO_LONG, &blank, none);
 }
 
-/* Writes into a buffer of so many bytes of a larger one: the frame is there if it is done, and nothing else is written. */
+/* Writes into a buffer of so many bytes, part of a larger one. If it is done the frame is there; nothing else changes. */
 static void check_writing(const char *name, struct tesolvagna_beacon beacon, size_t buffer_length, uint8_t number,
                           const uint8_t *frame, size_t length)
 {

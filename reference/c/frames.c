@@ -1,7 +1,7 @@
 /*
- * Reads frames from standard input and lets the library read each; to be run under valgrind. Each frame has a heap block of
- * exactly its size, so that valgrind sees every access beside it; the checksum takes in every field of the answer, so that
- * it sees one that is left unwritten. The exit status is 0 if all answers are as expected.
+ * Reads frames from standard input and lets the library read each; to be run under valgrind. Each frame has a heap
+ * block of exactly its size, so that valgrind sees every access beside it; the checksum takes in every field of the
+ * answer, so that it sees one that is left unwritten. The exit status is 0 if all answers are as expected.
  *
  * With the argument `probe` it reads one byte behind a frame itself: valgrind must find that.
  */

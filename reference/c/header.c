@@ -1,6 +1,6 @@
 /*
- * Calls the library through its header on schedules, neighbour tables and ranks, with worked values in which the fields of a
- * struct differ. The exit status is 0 if all answers are right. This is C99, and C++ too.
+ * Calls the library through its header on schedules, neighbour tables and ranks, with worked values in which the
+ * fields of a struct differ. The exit status is 0 if all answers are right. This is C99, and C++ too.
  */
 #include "check.h"
 
@@ -143,7 +143,8 @@ static void calls(void)
 
     check("empty table", "in use", table.neighbours[31].in_use, false);
     check("empty table", "has parent", table.has_parent, false);
-    check_evaluation("empty table", tesolvagna_table_evaluate(table), TESOLVAGNA_DONE, false, TESOLVAGNA_NO_RANK, &table);
+    check_evaluation("empty table", tesolvagna_table_evaluate(table), TESOLVAGNA_DONE, false, TESOLVAGNA_NO_RANK,
+                     &table);
 
     set_neighbour(&table.neighbours[0], 7, 300, 0, 0);
     check_answer("first place", tesolvagna_table_advertise(tesolvagna_table_init(), 7, 300), TESOLVAGNA_DONE, &table);
@@ -181,7 +182,8 @@ static void calls(void)
 
     broken = full;
     broken.has_parent = false;
-    check_answer("parent that is not held", tesolvagna_table_advertise(broken, 100, 1), TESOLVAGNA_OUT_OF_LIMITS, &broken);
+    check_answer("parent that is not held", tesolvagna_table_advertise(broken, 100, 1), TESOLVAGNA_OUT_OF_LIMITS,
+                 &broken);
     check_evaluation("parent that is not held", tesolvagna_table_evaluate(broken), TESOLVAGNA_OUT_OF_LIMITS, false,
                      TESOLVAGNA_NO_RANK, &broken);
     broken = full;
@@ -190,8 +192,8 @@ static void calls(void)
 }
 
 static void check_replay(const char *name, struct tesolvagna_replay replay, uint8_t number, bool applies,
-                         uint32_t evaluations, uint32_t changes, uint64_t rises, uint32_t first_cost, uint32_t last_cost,
-                         const struct tesolvagna_table *expected)
+                         uint32_t evaluations, uint32_t changes, uint64_t rises, uint32_t first_cost,
+                         uint32_t last_cost, const struct tesolvagna_table *expected)
 {
     check(name, "number", replay.number, number);
     check(name, "applies", replay.applies, applies);

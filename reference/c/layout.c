@@ -1,7 +1,7 @@
 /*
- * The layout of the header's structs: prints the size of each, and the offset and size of each field, as the compiler has
- * them, and compares them with the numbers that stand here. tests/header.rs compares what is printed with the Rust side. The
- * exit status is the number of differences.
+ * The layout of the header's structs: prints the size of each, and the offset and size of each field, as the compiler
+ * has them, and compares them with the numbers that stand here. tests/header.rs compares what is printed with the
+ * Rust side. The exit status is the number of differences.
  */
 #include "tesolvagna.h"
 
@@ -9,7 +9,8 @@
 
 static int differences;
 
-static void show(const char *of, const char *field, size_t offset, size_t size, size_t wanted_offset, size_t wanted_size)
+static void show(const char *of, const char *field, size_t offset, size_t size, size_t wanted_offset,
+                 size_t wanted_size)
 {
     printf("%s %s %zu %zu\n", of, field, offset, size);
     if (offset != wanted_offset || size != wanted_size) {
@@ -20,7 +21,8 @@ static void show(const char *of, const char *field, size_t offset, size_t size, 
 
 #define SIZE(of, size) show(#of, "", 0, sizeof(struct tesolvagna_##of), 0, size)
 #define FIELD(of, field, offset, size)                                                                                 \
-    show(#of, #field, offsetof(struct tesolvagna_##of, field), sizeof(((struct tesolvagna_##of *)0)->field), offset, size)
+    show(#of, #field, offsetof(struct tesolvagna_##of, field), sizeof(((struct tesolvagna_##of *)0)->field), offset,   \
+         size)
 
 int main(void)
 {

@@ -3,7 +3,6 @@
 //! same table in C's form: the reference converts from it and back. Beside it stands the reference on its own tables and
 //! calls, which it need not convert.
 
-use reference::convert::Reply;
 use reference::interface as c;
 use reference::log::{self, Log};
 use reference::measure::{compare, Side};
@@ -67,6 +66,21 @@ fn by_reference_alone(table: &Table, call: &Call) -> Answer {
     table.call(call)
 }
 
+/// The library's answer in the form that it has for this kind of call.
+fn evaluate(table: &c::Table, _: &Call) -> c::Evaluation {
+    library::evaluate(table)
+}
+
+fn advertise(table: &c::Table, call: &Call) -> c::TableAnswer {
+    let Call::Advertise { identifier, rank } = *call else { panic!("another call") };
+    library::advertise(table, identifier, rank)
+}
+
+fn report(table: &c::Table, call: &Call) -> c::TableAnswer {
+    let Call::Report { identifier, attempts, acknowledged } = *call else { panic!("another call") };
+    library::report(table, identifier, attempts as u32, acknowledged)
+}
+
 /// Calls through a pointer that the compiler cannot see through: no side is inlined into the loop.
 fn run<T, A>(call: fn(&T, &Call) -> A, cases: &[Case], table: fn(&Case) -> &T) {
     let call = black_box(call);
@@ -75,19 +89,14 @@ fn run<T, A>(call: fn(&T, &Call) -> A, cases: &[Case], table: fn(&Case) -> &T) {
     }
 }
 
-fn bench_calls(title: &str, what: &str, cases: &[Case]) {
+fn bench_calls<A>(title: &str, what: &str, by_library: fn(&c::Table, &Call) -> A, cases: &[Case]) {
     for case in cases {
         let expected = convert::call(&case.table, &case.call);
         assert_eq!(library::call(&case.table, &case.call), expected, "the sides differ");
         assert_eq!(expected.number(), 0, "the call is valid");
     }
     let mut sides = [
-        Side {
-            name: "library",
-            run: &mut |chunk| {
-                run(library::call as fn(&c::Table, &Call) -> Reply, &cases[chunk], |case| &case.table);
-            },
-        },
+        Side { name: "library", run: &mut |chunk| run(by_library, &cases[chunk], |case| &case.table) },
         Side {
             name: "reference, its own table",
             run: &mut |chunk| run(by_reference_alone, &cases[chunk], |case| &case.own),
@@ -124,11 +133,11 @@ fn calls(random: &mut Random, title: &str, neighbours: std::ops::RangeInclusive<
             break place.identifier;
         }
     };
-    bench_calls("evaluate", "evaluation", &cases(&mut |_| Call::Evaluate));
-    let advertise = cases(&mut |own| Call::Advertise { identifier: known(own), rank: 700 });
-    bench_calls("advertise, a known neighbour", "advertisement", &advertise);
-    let report = cases(&mut |own| Call::Report { identifier: known(own), attempts: 2, acknowledged: true });
-    bench_calls("report", "report", &report);
+    bench_calls("evaluate", "evaluation", evaluate, &cases(&mut |_| Call::Evaluate));
+    let advertisements = cases(&mut |own| Call::Advertise { identifier: known(own), rank: 700 });
+    bench_calls("advertise, a known neighbour", "advertisement", advertise, &advertisements);
+    let reports = cases(&mut |own| Call::Report { identifier: known(own), attempts: 2, acknowledged: true });
+    bench_calls("report", "report", report, &reports);
 }
 
 /// A log in both forms, and the table that it starts from.
