@@ -15,6 +15,23 @@ use eb_record_spec::Slotframe;
 use eb_record_spec::Synchronization;
 use eb_record_spec::TimeslotTemplate;
 
+// The value of the lowest bit of the third byte of a number.
+const BYTE_2: u64 = 0x1_0000;
+// Joining information begins with four bytes, whose most significant bit is the R flag.
+const ROUTER: u64 = 0x8000_0000;
+// Then comes the P flag.
+const PROXIED: u64 = 0x4000_0000;
+// Behind three reserved bits the proxy priority, of 7 bits; this is its lowest.
+const PROXY_PRIORITY: u64 = 0x10_0000;
+// Then the rank priority, of 12 bits; this is its lowest. The PAN priority, of 8 bits, is at the end.
+const RANK_PRIORITY: u64 = 0x100;
+// What is above a number of 7 bits.
+const OVER_7_BITS: u64 = 0x80;
+// What is above a number of 8 bits.
+const OVER_8_BITS: u64 = 0x100;
+// What is above a number of 12 bits.
+const OVER_12_BITS: u64 = 0x1000;
+
 // The synchronization element.
 pub(crate) fn synchronization_at(s: &[u8], at: usize) -> Synchronization
     requires { ⌜ at + 6 ≤ length (now s) ⌝ }
@@ -26,6 +43,7 @@ pub(crate) fn synchronization_at(s: &[u8], at: usize) -> Synchronization
     }
 }
 
+// The third byte of a timing of 3 bytes, and 0 for one of 2.
 fn third_byte(s: &[u8], third: usize, wide: usize) -> u64
     requires { ⌜ third < length (now s) ⌝ }
     ensures { λ r. ⌜ (r ≡ ifEq wide 0 0 (getD (now (s .entry)) third 0)) × (r < 256) ⌝ }
@@ -38,7 +56,7 @@ fn last(s: &[u8], at: usize, third: usize, wide: usize) -> u32
     requires { ⌜ (at + 2 ≤ length (now s)) × (third < length (now s)) × (wide ≤ 1) × (wide ≡ 1 → third ≡ at + 2) ⌝ }
     ensures { λ r. ⌜ r ≡ leAt (2 + wide) (now (s .entry)) at ⌝ }
 {
-    (fixed::le16(s, at) + 65536 * third_byte(s, third, wide)) as u32
+    (fixed::le16(s, at) + BYTE_2 * third_byte(s, third, wide)) as u32
 }
 
 // Timing k of twelve; the last two have 2 bytes, or 3 if `wide` is 1.
@@ -55,6 +73,7 @@ fn timing(s: &[u8], at: usize, wide: usize, k: usize) -> u32
     last(s, at + (21 + (2 + wide)), at + (24 + 2 * wide), wide)
 }
 
+// All twelve timings.
 fn timings_within(s: &[u8], at: usize, wide: usize) -> [u32; 12]
     requires { ⌜ (wide ≤ 1) × (at + (25 + 2 * wide) ≤ length (now s)) ⌝ }
     ensures { λ r. ⌜ r ≡ counted (timingAt (now (s .entry)) at (2 + wide)) 12 ⌝ }
@@ -89,6 +108,7 @@ pub(crate) fn template_at(s: &[u8], at: usize, to: usize) -> TimeslotTemplate
     }
 }
 
+// Link i of a slotframe and link element.
 fn link_at(s: &[u8], at: usize, i: usize) -> Link
     requires { ⌜ (i < 16) × (at + (10 + 5 * i) ≤ length (now s)) ⌝ }
     ensures { λ r. ⌜ r ≡ linkAt (now (s .entry)) at i ⌝ }
@@ -100,6 +120,7 @@ fn link_at(s: &[u8], at: usize, i: usize) -> Link
     }
 }
 
+// So many links, and blank ones behind them.
 fn links_at(s: &[u8], at: usize, count: usize) -> [Link; 16]
     requires { ⌜ (count ≤ 16) × (at + (5 + 5 * count) ≤ length (now s)) ⌝ }
     ensures { λ r. ⌜ r ≡ padded (linkAt (now (s .entry)) at) blankLink 16 count ⌝ }
@@ -127,19 +148,21 @@ pub(crate) fn slotframe_at(s: &[u8], at: usize) -> Slotframe
     }
 }
 
-fn network_within(s: &[u8], at: usize, skip: usize, n: usize) -> [u8; 16]
-    requires { ⌜ (n ≤ 16) × (at + (skip + n) ≤ length (now s)) ⌝ }
-    ensures { λ r. ⌜ r ≡ padded (λ i. getD (now (s .entry)) (at + (skip + i)) 0) 0 16 n ⌝ }
+// So many bytes of a network ID that begins `skip` bytes behind an offset.
+fn network_within(s: &[u8], at: usize, skip: usize, size: usize) -> [u8; 16]
+    requires { ⌜ (size ≤ 16) × (at + (skip + size) ≤ length (now s)) ⌝ }
+    ensures { λ r. ⌜ r ≡ padded (λ i. getD (now (s .entry)) (at + (skip + i)) 0) 0 16 size ⌝ }
 {
     let mut all = [0u8; 16];
     let mut i = 0;
-    while i < n {
+    while i < size {
         all[i] = s[at + (skip + i)];
         i += 1;
     }
     all
 }
 
+// The address of the join proxy, which is there if P is 1.
 fn proxy_address(s: &[u8], at: usize, proxied: u64) -> u64
     requires { ⌜ (proxied < 2) × (at + (4 + 8 * proxied) ≤ length (now s)) ⌝ }
     ensures { λ r. ⌜ r ≡ ifEq proxied 1 (beAt 8 (now (s .entry)) (at + 4)) 0 ⌝ }
@@ -161,21 +184,22 @@ pub(crate) fn joining_at(s: &[u8], at: usize, to: usize) -> JoiningInformation
     joining_present(s, at, to)
 }
 
+// Joining information that is there.
 fn joining_present(s: &[u8], at: usize, to: usize) -> JoiningInformation
     requires { ⌜ (at ≡ 0 → ⊥) × JoiningInside (now s) at to ⌝ }
     ensures { λ r. ⌜ r ≡ joiningAt (now (s .entry)) at to ⌝ }
 {
     let word = fixed::be32(s, at);
-    let proxied = word / 0x4000_0000 % 2;
+    let proxied = word / PROXIED % 2;
     let skip = 4 + 8 * proxied as usize;
     let size = to - at - skip;
     JoiningInformation {
         present: true,
-        router: word / 0x8000_0000 % 2 == 1,
+        router: word / ROUTER % 2 == 1,
         proxied: proxied == 1,
-        proxy: (word / 0x10_0000 % 0x80) as u8,
-        rank: (word / 0x100 % 0x1000) as u16,
-        pan: (word % 0x100) as u8,
+        proxy: (word / PROXY_PRIORITY % OVER_7_BITS) as u8,
+        rank: (word / RANK_PRIORITY % OVER_12_BITS) as u16,
+        pan: (word % OVER_8_BITS) as u8,
         address: proxy_address(s, at, proxied),
         length: size as u8,
         network: network_within(s, at, skip, size),

@@ -6,20 +6,25 @@ ghost use lib.ListN.{length, getD};
 ghost use Rattle.octets_spec.specs.Choice.{ifEq};
 ghost use Rattle.octets_spec.specs.Number.{leAt, beAt};
 
-// One of two numbers, both of which are at hand: compiled, it is no branch.
-pub(crate) fn choose(a: u64, b: u64, x: u64, y: u64) -> u64
-    ensures { λ r. ⌜ r ≡ ifEq a b x y ⌝ }
+// The value of the lowest bit of the third byte of a number.
+const BYTE_2: u64 = 0x1_0000;
+// The value of the lowest bit of the fifth byte.
+const BYTE_4: u64 = 0x1_0000_0000;
+
+// One of two numbers, by whether a value is the wanted one. Both are at hand: compiled, it is no branch.
+pub(crate) fn choose(value: u64, wanted: u64, same: u64, other: u64) -> u64
+    ensures { λ r. ⌜ r ≡ ifEq value wanted same other ⌝ }
 {
-    if a == b {
-        return x;
+    if value == wanted {
+        return same;
     }
-    y
+    other
 }
 
-fn wide(x: u8) -> u64
-    ensures { λ r. ⌜ (r ≡ x) × (r < 256) ⌝ }
+fn wide(byte: u8) -> u64
+    ensures { λ r. ⌜ (r ≡ byte) × (r < 256) ⌝ }
 {
-    x as u64
+    byte as u64
 }
 
 pub(crate) fn byte(s: &[u8], at: usize) -> u64
@@ -31,49 +36,49 @@ pub(crate) fn byte(s: &[u8], at: usize) -> u64
 
 pub(crate) fn le16(s: &[u8], at: usize) -> u64
     requires { ⌜ at + 2 ≤ length (now s) ⌝ }
-    ensures { λ r. ⌜ (r ≡ leAt 2 (now (s .entry)) at) × (r < 65536) ⌝ }
+    ensures { λ r. ⌜ (r ≡ leAt 2 (now (s .entry)) at) × (r < 0x1_0000) ⌝ }
 {
-    byte(s, at) + 256 * byte(s, at + 1)
+    byte(s, at) + 0x100 * byte(s, at + 1)
 }
 
 fn le32(s: &[u8], at: usize) -> u64
     requires { ⌜ at + 4 ≤ length (now s) ⌝ }
-    ensures { λ r. ⌜ (r ≡ leAt 4 (now (s .entry)) at) × (r < 4294967296) × (r % 65536 ≡ leAt 2 (now (s .entry)) at) ⌝ }
+    ensures { λ r. ⌜ (r ≡ leAt 4 (now (s .entry)) at) × (r < 0x1_0000_0000) × (r % 0x1_0000 ≡ leAt 2 (now (s .entry)) at) ⌝ }
 {
-    le16(s, at) + 65536 * le16(s, at + 2)
+    le16(s, at) + BYTE_2 * le16(s, at + 2)
 }
 
 pub(crate) fn le40(s: &[u8], at: usize) -> u64
     requires { ⌜ at + 5 ≤ length (now s) ⌝ }
     ensures { λ r. ⌜ r ≡ leAt 5 (now (s .entry)) at ⌝ }
 {
-    le32(s, at) + 4294967296 * byte(s, at + 4)
+    le32(s, at) + BYTE_4 * byte(s, at + 4)
 }
 
 pub(crate) fn le64(s: &[u8], at: usize) -> u64
     requires { ⌜ at + 8 ≤ length (now s) ⌝ }
-    ensures { λ r. ⌜ (r ≡ leAt 8 (now (s .entry)) at) × (r % 65536 ≡ leAt 2 (now (s .entry)) at) ⌝ }
+    ensures { λ r. ⌜ (r ≡ leAt 8 (now (s .entry)) at) × (r % 0x1_0000 ≡ leAt 2 (now (s .entry)) at) ⌝ }
 {
-    le32(s, at) + 4294967296 * le32(s, at + 4)
+    le32(s, at) + BYTE_4 * le32(s, at + 4)
 }
 
 fn be16(s: &[u8], at: usize) -> u64
     requires { ⌜ at + 2 ≤ length (now s) ⌝ }
-    ensures { λ r. ⌜ (r ≡ beAt 2 (now (s .entry)) at) × (r < 65536) × (r / 256 ≡ getD (now (s .entry)) at 0) ⌝ }
+    ensures { λ r. ⌜ (r ≡ beAt 2 (now (s .entry)) at) × (r < 0x1_0000) × (r / 256 ≡ getD (now (s .entry)) at 0) ⌝ }
 {
-    256 * byte(s, at) + byte(s, at + 1)
+    0x100 * byte(s, at) + byte(s, at + 1)
 }
 
 pub(crate) fn be32(s: &[u8], at: usize) -> u64
     requires { ⌜ at + 4 ≤ length (now s) ⌝ }
-    ensures { λ r. ⌜ (r ≡ beAt 4 (now (s .entry)) at) × (r < 4294967296) × (r / 1073741824 ≡ getD (now (s .entry)) at 0 / 64) ⌝ }
+    ensures { λ r. ⌜ (r ≡ beAt 4 (now (s .entry)) at) × (r < 0x1_0000_0000) × (r / 0x4000_0000 ≡ getD (now (s .entry)) at 0 / 0x40) ⌝ }
 {
-    65536 * be16(s, at) + be16(s, at + 2)
+    BYTE_2 * be16(s, at) + be16(s, at + 2)
 }
 
 pub(crate) fn be64(s: &[u8], at: usize) -> u64
     requires { ⌜ at + 8 ≤ length (now s) ⌝ }
     ensures { λ r. ⌜ r ≡ beAt 8 (now (s .entry)) at ⌝ }
 {
-    4294967296 * be32(s, at) + be32(s, at + 4)
+    BYTE_4 * be32(s, at) + be32(s, at + 4)
 }

@@ -7,6 +7,12 @@ ghost use Rattle.octets_spec.specs.Choice.{ifEq};
 ghost use Rattle.octets_spec.specs.Number.{leAt};
 ghost use Rattle.eb_decode.specs.Header.{headerForm};
 use crate::fixed;
+use mac_header_spec::EXTENDED;
+
+// What is above a number of two bytes.
+const OVER_2_BYTES: u64 = 0x1_0000;
+// In a frame of this many bytes, eight lie behind every offset that a source may have.
+const LONG_ENOUGH: usize = 21;
 
 // The sequence number, which is 0 where there is none, the PAN, and the source with its kind.
 pub(crate) struct HeaderForm {
@@ -17,19 +23,19 @@ pub(crate) struct HeaderForm {
     pub source: u64,
 }
 
-// The source address. A beacon has eight bytes there, whatever its mode is.
+// The source address. Where eight bytes lie behind its offset, they are read, whatever its mode is.
 fn source(s: &[u8], mode: u64, at: usize) -> u64
     requires { ⌜ at ≤ 13 ⌝ }
-    ensures { λ r. ⌜ (r ≡ ifEq mode 3 (leAt 8 (now (s .entry)) at) (leAt 2 (now (s .entry)) at)) × ((mode ≡ 3 → ⊥) → r < 65536) ⌝ }
+    ensures { λ r. ⌜ (r ≡ ifEq mode 3 (leAt 8 (now (s .entry)) at) (leAt 2 (now (s .entry)) at)) × ((mode ≡ 3 → ⊥) → r < 0x1_0000) ⌝ }
 {
-    if s.len() < 21 {
-        if mode == 3 {
+    if s.len() < LONG_ENOUGH {
+        if mode == EXTENDED {
             return octets::get::le(s, at, 8);
         }
         return octets::get::le(s, at, 2);
     }
     let wide = fixed::le64(s, at);
-    fixed::choose(mode, 3, wide, wide % 0x1_0000)
+    fixed::choose(mode, EXTENDED, wide, wide % OVER_2_BYTES)
 }
 
 // The sequence number, the PAN and the source of a frame. They are those of a record: no number where there is none, and no short source
@@ -45,7 +51,7 @@ pub(crate) fn header_at(s: &[u8]) -> HeaderForm
         sequenced: control.suppressed == 0,
         sequence: fixed::choose(control.suppressed, 0, octets::get::byte(s, 2), 0) as u8,
         pan: octets::get::le(s, pan, 2) as u16,
-        extended: control.source == 3,
+        extended: control.source == EXTENDED,
         source: source(s, control.source, at),
     }
 }

@@ -4,6 +4,9 @@ ghost use Prim.Native.Nat.{_<_};
 ghost use Rattle.eb_read_spec.specs.Inside.{bytesInside, isTimeslotLength, timeslotInside, slotframeInside, isJoiningLength, joiningInside, liesInside};
 use ie_walk_spec::Walk;
 
+// The P flag in the first byte of joining information.
+const PROXIED: u64 = 0x40;
+
 // Whether this many bytes from an offset on lie inside the frame.
 fn bytes_inside(s: &[u8], at: usize, size: usize) -> bool
     ensures { λ r. ⌜ r ≡ bytesInside (now (s .entry)) at size ⌝ }
@@ -17,6 +20,7 @@ fn bytes_inside(s: &[u8], at: usize, size: usize) -> bool
     true
 }
 
+// Whether a timeslot element may have this many bytes.
 fn is_timeslot_length(size: usize) -> bool
     ensures { λ r. ⌜ r ≡ isTimeslotLength size ⌝ }
 {
@@ -32,6 +36,7 @@ fn is_timeslot_length(size: usize) -> bool
     false
 }
 
+// Whether a timeslot element that lies from an offset to another does so inside the frame.
 fn timeslot_inside(s: &[u8], at: usize, to: usize) -> bool
     ensures { λ r. ⌜ r ≡ timeslotInside (now (s .entry)) at to ⌝ }
 {
@@ -41,6 +46,7 @@ fn timeslot_inside(s: &[u8], at: usize, to: usize) -> bool
     is_timeslot_length(octets::span(at, to))
 }
 
+// Whether a slotframe and link element lies inside the frame with all its links.
 fn slotframe_inside(s: &[u8], at: usize) -> bool
     ensures { λ r. ⌜ r ≡ slotframeInside (now (s .entry)) at ⌝ }
 {
@@ -54,6 +60,7 @@ fn slotframe_inside(s: &[u8], at: usize) -> bool
     bytes_inside(s, at, 5 + 5 * links)
 }
 
+// Whether joining information may have this many bytes.
 fn is_joining_length(size: usize, proxied: u64) -> bool
     requires { ⌜ proxied < 2 ⌝ }
     ensures { λ r. ⌜ r ≡ isJoiningLength size proxied ⌝ }
@@ -68,6 +75,7 @@ fn is_joining_length(size: usize, proxied: u64) -> bool
     true
 }
 
+// Whether joining information that lies from an offset to another does so inside the frame.
 fn joining_inside(s: &[u8], at: usize, to: usize) -> bool
     ensures { λ r. ⌜ r ≡ joiningInside (now (s .entry)) at to ⌝ }
 {
@@ -77,10 +85,7 @@ fn joining_inside(s: &[u8], at: usize, to: usize) -> bool
     if s.len() < to {
         return false;
     }
-    is_joining_length(
-        octets::span(at, to),
-        octets::get::byte(s, at) / 64 % 2,
-    )
+    is_joining_length(octets::span(at, to), octets::get::byte(s, at) / PROXIED % 2)
 }
 
 // Whether all elements that a walk noted lie inside the frame.

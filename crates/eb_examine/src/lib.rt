@@ -1,18 +1,19 @@
 // The checks of a frame: those before its elements, the walk over the elements, and what is missing.
 ghost use mathlib.Core.Path.{_≡_};
 ghost use Prim.Native.Nat.{_≤_};
-ghost use Rattle.eb_read_spec.specs.Read.{headedWalk, elementsWalk, missing, walkNumber, blankWalk, elementsOffset, examined};
+ghost use Rattle.eb_read_spec.specs.Read.{walkStart, elementsWalk, missing, walkNumber, blankWalk, elementsOffset, examined};
 ghost use Rattle.eb_read_spec.specs.Inside.{AcceptedLiesInside};
 use eb_read_spec::Examination;
-use ie_walk_spec::Headed;
+use ie_walk_spec::HeaderListEnd;
 use ie_walk_spec::Walk;
 use refusal::DONE;
 use refusal::MISSING_OR_TWICE;
 
 pub mod mac_header_fault;
 
-fn headed_walk(head: Headed) -> Walk
-    ensures { λ r. ⌜ r ≡ headedWalk head ⌝ }
+// Where the walk begins behind the header list: no element is noted.
+fn walk_start(head: HeaderListEnd) -> Walk
+    ensures { λ r. ⌜ r ≡ walkStart head ⌝ }
 {
     Walk {
         fault: head.fault,
@@ -28,10 +29,11 @@ fn headed_walk(head: Headed) -> Walk
     }
 }
 
+// No walk.
 fn blank_walk() -> Walk
     ensures { λ r. ⌜ r ≡ blankWalk ⌝ }
 {
-    headed_walk(Headed {
+    walk_start(HeaderListEnd {
         fault: 0,
         faulty: 0,
         skipped: 0,
@@ -39,6 +41,7 @@ fn blank_walk() -> Walk
     })
 }
 
+// The elements start behind the fixed fields.
 fn elements_offset(s: &[u8]) -> usize
     ensures { λ r. ⌜ r ≡ elementsOffset (now (s .entry)) ⌝ }
 {
@@ -46,11 +49,12 @@ fn elements_offset(s: &[u8]) -> usize
     offsets.elements
 }
 
+// The header list, and the payload list if one follows.
 fn elements_walk(s: &[u8], at: usize, end: usize) -> Walk
     ensures { λ r. ⌜ r ≡ elementsWalk (now (s .entry)) at end ⌝ }
 {
     let head = ie_walk::header_list::header_list(s, at, end);
-    let start = headed_walk(head);
+    let start = walk_start(head);
     if head.fault != 0 {
         return start;
     }
@@ -62,32 +66,33 @@ fn elements_walk(s: &[u8], at: usize, end: usize) -> Walk
 }
 
 // Missing elements are judged last.
-fn missing_fault(w: Walk) -> u8
-    ensures { λ r. ⌜ r ≡ missing w ⌝ }
+fn missing_fault(walk: Walk) -> u8
+    ensures { λ r. ⌜ r ≡ missing walk ⌝ }
 {
-    if w.synchronization == 0 {
+    if walk.synchronization == 0 {
         return MISSING_OR_TWICE;
     }
-    if w.timeslot == 0 {
+    if walk.timeslot == 0 {
         return MISSING_OR_TWICE;
     }
-    if w.hopping == 0 {
+    if walk.hopping == 0 {
         return MISSING_OR_TWICE;
     }
-    if w.slotframe == 0 {
+    if walk.slotframe == 0 {
         return MISSING_OR_TWICE;
     }
     DONE
 }
 
-fn walk_number(w: Walk) -> u8
-    requires { ⌜ w .fault ≤ 8 ⌝ }
-    ensures { λ r. ⌜ r ≡ walkNumber w ⌝ }
+// The number of the first fault, or that of a missing element.
+fn walk_number(walk: Walk) -> u8
+    requires { ⌜ walk .fault ≤ 8 ⌝ }
+    ensures { λ r. ⌜ r ≡ walkNumber walk ⌝ }
 {
-    if w.fault != 0 {
-        return w.fault as u8;
+    if walk.fault != 0 {
+        return walk.fault as u8;
     }
-    missing_fault(w)
+    missing_fault(walk)
 }
 
 // The number of a frame, and where its known elements are. A frame that is refused before its elements has none.
@@ -102,9 +107,9 @@ pub fn examine(s: &[u8]) -> Examination
             walk: blank_walk(),
         };
     }
-    let w = elements_walk(s, elements_offset(s), s.len());
+    let walk = elements_walk(s, elements_offset(s), s.len());
     Examination {
-        number: walk_number(w),
-        walk: w,
+        number: walk_number(walk),
+        walk,
     }
 }

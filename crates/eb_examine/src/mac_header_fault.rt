@@ -1,7 +1,11 @@
 // The checks before a frame's elements: its length, the frame control word, the fixed fields and the destination.
 ghost use mathlib.Core.Path.{_≡_};
 ghost use Rattle.mac_header_spec.specs.Control.{formFault, macHeaderFault};
+use mac_header_spec::BEACON;
+use mac_header_spec::BROADCAST;
 use mac_header_spec::Control;
+use mac_header_spec::SHORT;
+use mac_header_spec::VERSION_2015;
 use refusal::ADDRESSING;
 use refusal::CUT;
 use refusal::DONE;
@@ -13,19 +17,19 @@ use refusal::WRONG_TYPE;
 fn form_fault(control: Control) -> u8
     ensures { λ r. ⌜ r ≡ formFault control ⌝ }
 {
-    if control.kind != 0 {
+    if control.kind != BEACON {
         return WRONG_TYPE;
     }
-    if control.version != 2 {
+    if control.version != VERSION_2015 {
         return WRONG_TYPE;
     }
     if control.security != 0 {
         return SECURED;
     }
-    if control.destination != 2 {
+    if control.destination != SHORT {
         return ADDRESSING;
     }
-    if control.source < 2 {
+    if control.source < SHORT {
         return ADDRESSING;
     }
     if control.compression != 1 {
@@ -57,7 +61,7 @@ pub fn mac_header_fault(s: &[u8]) -> u8
         return CUT;
     }
     let destination = offsets.destination;
-    if octets::get::le(s, destination, 2) != 65535 {
+    if octets::get::le(s, destination, 2) != BROADCAST {
         return ADDRESSING;
     }
     DONE

@@ -16,6 +16,7 @@ fn network_offset(s: &[u8], at: usize) -> usize
     4 + 8 * (octets::get::be(s, at, 4) / PROXIED % 2) as usize
 }
 
+// The bytes from an offset to another.
 fn span_from(from: usize, to: usize) -> Span
     ensures { λ r. ⌜ r ≡ spanFrom from to ⌝ }
 {

@@ -20,9 +20,9 @@ use Rattle.ie_step_spec.specs.declared.InnerStep.{InnerStep}
 use Rattle.ie_step_spec.specs.declared.InnerStep.the-variants as inner
 use Rattle.ie_walk_spec.specs.Walk.{seenOf, skipOne, taken, stopped, partTaken, outerGo, groupGo, payloadList}
 use Rattle.ie_walk_spec.specs.declared.Walk.{Walk}
-use Rattle.ie_walk_spec.specs.declared.Headed.{Headed}
+use Rattle.ie_walk_spec.specs.declared.HeaderListEnd.{HeaderListEnd}
 use Rattle.eb_read_spec.specs.declared.Examination.{Examination}
-use Rattle.eb_read_spec.specs.Read.{headedWalk, blankWalk, elementsWalk, elementsOffset, examined}
+use Rattle.eb_read_spec.specs.Read.{walkStart, blankWalk, elementsWalk, elementsOffset, examined}
 use Rattle.eb_read_spec.proofs.Each.{each-eq, each-eq-2}
 use Rattle.eb_read_spec.proofs.Within.{outer-within, inner-within}
 
@@ -151,9 +151,9 @@ module _ (s : List ℕ) (from to : ℕ) (seen : Seen) where
 -- ---- the walk
 module _ (s : List ℕ) (end : ℕ) where
   -- no element is noted where the walk begins
-  pub headed-noted : (head : Headed) → Noted s end (headedWalk head)
-  unfolding headedWalk
-  headed-noted head = record {
+  pub start-noted : (head : HeaderListEnd) → Noted s end (walkStart head)
+  unfolding walkStart
+  start-noted head = record {
     slotframe = λ some. absurd (some refl);
     timeslot = λ some. absurd (some refl);
     joining = λ some. absurd (some refl);
@@ -246,9 +246,9 @@ pub elements-noted : (s : List ℕ) (at end : ℕ) → Noted s end (elementsWalk
 unfolding elementsWalk payloadList
 elements-noted s at end =
     let P : Walk → Type 0 = λ w. Noted s end w in
-    either-eq P _ _ (either-eq P _ _ (headed-noted s end _) (lists-noted _ .0 s _ end _ (headed-noted s end _)) _ _) (headed-noted s end _) _ _
+    either-eq P _ _ (either-eq P _ _ (start-noted s end _) (lists-noted _ .0 s _ end _ (start-noted s end _)) _ _) (start-noted s end _) _ _
 
 pub examined-noted : (s : List ℕ) → Noted s (length s) (examined s .walk)
 unfolding examined blankWalk
 examined-noted s =
-    either-eq (λ (x : Examination). Noted s (length s) (x .walk)) _ _ (elements-noted s (elementsOffset s) (length s)) (headed-noted s (length s) _) _ _
+    either-eq (λ (x : Examination). Noted s (length s) (x .walk)) _ _ (elements-noted s (elementsOffset s) (length s)) (start-noted s (length s) _) _ _

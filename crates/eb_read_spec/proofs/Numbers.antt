@@ -22,9 +22,9 @@ use Rattle.ie_step_spec.specs.declared.InnerStep.{InnerStep}
 use Rattle.ie_step_spec.specs.declared.InnerStep.the-variants as inner
 use Rattle.ie_walk_spec.specs.Walk.{seenOf, skipOne, taken, stopped, partTaken, headerGo, headerList, outerGo, groupGo, payloadList}
 use Rattle.ie_walk_spec.specs.declared.Walk.{Walk}
-use Rattle.ie_walk_spec.specs.declared.Headed.{Headed}
+use Rattle.ie_walk_spec.specs.declared.HeaderListEnd.{HeaderListEnd}
 use Rattle.eb_read_spec.specs.declared.Examination.{Examination}
-use Rattle.eb_read_spec.specs.Read.{headedWalk, elementsWalk, missing, walkNumber, elementsOffset, examined}
+use Rattle.eb_read_spec.specs.Read.{walkStart, elementsWalk, missing, walkNumber, elementsOffset, examined}
 
 -- a number from 0 to 8 but 1, as a test that computes at a literal
 abbrev Small : ℕ → Type 0
@@ -178,7 +178,7 @@ both (suc bound) =
     (λ s at end w h. outer-step bound outers groups s at end w h (outerAt s at end) refl (outer-small s at end), λ s at to end w h. group-step bound outers groups s at to end w h (innerAt s at to) refl (inner-small s at to))
 
 pub elements-small : (s : List ℕ) (at end : ℕ) → WalkSmall (elementsWalk s at end)
-unfolding elementsWalk headedWalk headerList payloadList
+unfolding elementsWalk walkStart headerList payloadList
 elements-small s at end =
     let h : Small (headerGo (suc end) s at end 0 .fault) = header-go (suc end) s at end 0 in
     either-eq WalkSmall _ _ (either-eq WalkSmall _ _ h (both _ .0 s _ end _ h) _ _) h _ _

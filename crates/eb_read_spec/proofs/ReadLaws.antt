@@ -13,22 +13,22 @@ use Rattle.mac_header_spec.specs.declared.Control.{Control}
 use Rattle.mac_header_spec.specs.declared.FieldOffsets.{FieldOffsets}
 use Rattle.ie_walk_spec.specs.Walk.{headerList, payloadList}
 use Rattle.ie_walk_spec.specs.declared.Walk.{Walk}
-use Rattle.ie_walk_spec.specs.declared.Headed.{Headed}
+use Rattle.ie_walk_spec.specs.declared.HeaderListEnd.{HeaderListEnd}
 use Rattle.eb_read_spec.specs.Decode.{decoded}
-use Rattle.eb_read_spec.specs.Read.{headedWalk, blankWalk, elementsWalk, missing, walkNumber, elementsOffset, examined, readFrame}
+use Rattle.eb_read_spec.specs.Read.{walkStart, blankWalk, elementsWalk, missing, walkNumber, elementsOffset, examined, readFrame}
 use Rattle.eb_read_spec.specs.declared.Examination.{Examination}
 use Rattle.eb_read_spec.proofs.Numbers.{at-most-8, elements-small}
 
-pub heads : (head : Headed) → record { fault = head .fault; faulty = head .faulty; skipped = head .skipped; synchronization = 0; timeslot = 0; timeslotend = 0; hopping = 0; slotframe = 0; joining = 0; joiningend = 0 } ≡ headedWalk head
-unfolding headedWalk
+pub heads : (head : HeaderListEnd) → record { fault = head .fault; faulty = head .faulty; skipped = head .skipped; synchronization = 0; timeslot = 0; timeslotend = 0; hopping = 0; slotframe = 0; joining = 0; joiningend = 0 } ≡ walkStart head
+unfolding walkStart
 heads head = refl
 
 pub blanks : record { fault = 0; faulty = 0; skipped = 0; synchronization = 0; timeslot = 0; timeslotend = 0; hopping = 0; slotframe = 0; joining = 0; joiningend = 0 } ≡ blankWalk
-unfolding blankWalk headedWalk
+unfolding blankWalk walkStart
 blanks = refl
 
 -- ---- the elements
-module _ (s : List ℕ) (at end : ℕ) (head : Headed) (start : Walk) (h : head ≡ headerList s at end) (b : start ≡ headedWalk head) where
+module _ (s : List ℕ) (at end : ℕ) (head : HeaderListEnd) (start : Walk) (h : head ≡ headerList s at end) (b : start ≡ walkStart head) where
   pub header-faulty : (head .fault ≡ 0 → ⊥) → start ≡ elementsWalk s at end
   unfolding elementsWalk
   header-faulty bad = rw (← h) (if-ne _ _ _ _ bad b)

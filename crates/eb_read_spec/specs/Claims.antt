@@ -23,9 +23,9 @@ Bytes s = (i : ℕ) → getD s i 0 < 256
 abbrev pub AcceptedMayBeDecidedOn : Type 0
 AcceptedMayBeDecidedOn =
     (s : List ℕ) → readFrame s .number ≡ done →
-    let b = readFrame s .beacon in
-    (1 ≤ b .slotframe .count)
-    × (b .slotframe .count ≤ 16)
-    × (1 ≤ b .slotframe .size)
-    × ((i : ℕ) → i < b .slotframe .count → getD (b .slotframe .links) i blankLink .timeslot < b .slotframe .size)
-    × (Bytes s → b .synchronization .asn < 2 ^ 40)
+    let beacon = readFrame s .beacon in
+    (1 ≤ beacon .slotframe .count)
+    × (beacon .slotframe .count ≤ 16)
+    × (1 ≤ beacon .slotframe .size)
+    × ((i : ℕ) → i < beacon .slotframe .count → getD (beacon .slotframe .links) i blankLink .timeslot < beacon .slotframe .size)
+    × (Bytes s → beacon .synchronization .asn < 2 ^ 40)

@@ -8,7 +8,7 @@ use lib.ListN.{getD, replicate}
 use Rattle.octets_spec.specs.Choice.{ifLt, ifEq}
 use Rattle.octets_spec.specs.Number.{leAt, beAt}
 use Rattle.octets_spec.specs.Counted.{counted, padded}
-use Rattle.mac_header_spec.specs.Control.{controlOf, offsetsOf}
+use Rattle.mac_header_spec.specs.Control.{extendedMode, controlOf, offsetsOf}
 use Rattle.ie_walk_spec.specs.declared.Walk.{Walk}
 use Rattle.eb_read_spec.specs.declared.MacHeader.{MacHeader}
 use Rattle.eb_record_spec.specs.Record.{blankLink, blankJoining}
@@ -27,9 +27,9 @@ use Rattle.eb_record_spec.specs.declared.Beacon.{Beacon}
 unfoldable pub sequenceOf : List ℕ → ℕ → SequenceNumber
 sequenceOf s suppressed = ifEq suppressed 0 (Number (getD s 2 0)) Absent
 
--- the source: mode 3 extended (8 bytes), mode 2 short (2 bytes)
+-- the source: extended (8 bytes) or short (2 bytes)
 unfoldable pub sourceOf : List ℕ → ℕ → ℕ → Address
-sourceOf s mode at = ifEq mode 3 (Extended (leAt 8 s at)) (Short (leAt 2 s at))
+sourceOf s mode at = ifEq mode extendedMode (Extended (leAt 8 s at)) (Short (leAt 2 s at))
 
 -- synchronization: ASN (5 bytes), join metric
 unfoldable pub synchronizationAt : List ℕ → ℕ → Synchronization
@@ -70,9 +70,9 @@ joiningAt s at to =
       present = true;
       router = eqb (word / 2 ^ 31 % 2) 1;
       proxied = eqb (word / 2 ^ 30 % 2) 1;
-      proxy = word / 2 ^ 20 % 128;
-      rank = word / 2 ^ 8 % 4096;
-      pan = word % 256;
+      proxy = word / 2 ^ 20 % 2 ^ 7;
+      rank = word / 2 ^ 8 % 2 ^ 12;
+      pan = word % 2 ^ 8;
       address = ifEq (word / 2 ^ 30 % 2) 1 (beAt 8 s (at + 4)) 0;
       length = size;
       network = padded (λ i. getD s (at + (before + i)) 0) 0 16 size;
@@ -87,13 +87,13 @@ macHeaderOf s =
 
 -- the record: what stands before the elements, and each element where the walk noted it
 unfoldable pub decoded : List ℕ → Walk → Beacon
-decoded s w = record {
+decoded s walk = record {
   sequence = macHeaderOf s .sequence;
   pan = macHeaderOf s .pan;
   source = macHeaderOf s .source;
-  synchronization = synchronizationAt s (w .synchronization);
-  timeslot = templateAt s (w .timeslot) (w .timeslotend - w .timeslot);
-  hopping = getD s (w .hopping) 0;
-  slotframe = slotframeAt s (w .slotframe);
-  joining = joiningAt s (w .joining) (w .joiningend);
+  synchronization = synchronizationAt s (walk .synchronization);
+  timeslot = templateAt s (walk .timeslot) (walk .timeslotend - walk .timeslot);
+  hopping = getD s (walk .hopping) 0;
+  slotframe = slotframeAt s (walk .slotframe);
+  joining = joiningAt s (walk .joining) (walk .joiningend);
 }

@@ -34,7 +34,7 @@ isJoiningLength size proxied = let least : ℕ = 4 + 8 * proxied in ifLt size le
 
 -- and ends inside the frame; at offset 0 there is none
 unfoldable pub joiningInside : List ℕ → ℕ → ℕ → Bool
-joiningInside s at to = ifEq at 0 true (ifLt (length s) to false (isJoiningLength (to - at) (getD s at 0 / 64 % 2)))
+joiningInside s at to = ifEq at 0 true (ifLt (length s) to false (isJoiningLength (to - at) (getD s at 0 / 0x40 % 2)))
 
 -- all elements that a walk noted
 unfoldable pub liesInside : List ℕ → Walk → Bool
@@ -56,8 +56,8 @@ TimeslotLength n = (n ≡ 25) ⊎ ((n ≡ 27) ⊎ (n ≡ 1))
 
 -- joining information: four bytes, eight of an address if P, and 0 to 16 of a network ID
 pub record JoiningInside (s : List ℕ) (at to : ℕ) : Type 0 where
-  pub least : at + (4 + 8 * (getD s at 0 / 64 % 2)) ≤ to
-  pub most : to ≤ at + (20 + 8 * (getD s at 0 / 64 % 2))
+  pub least : at + (4 + 8 * (getD s at 0 / 0x40 % 2)) ≤ to
+  pub most : to ≤ at + (20 + 8 * (getD s at 0 / 0x40 % 2))
   pub inside : to ≤ length s
 
 -- the elements that a walk noted

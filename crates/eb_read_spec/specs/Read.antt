@@ -9,14 +9,14 @@ use Rattle.eb_record_spec.specs.Record.{blankBeacon}
 use Rattle.mac_header_spec.specs.Control.{controlOf, offsetsOf, macHeaderFault}
 use Rattle.ie_walk_spec.specs.Walk.{headerList, payloadList}
 use Rattle.ie_walk_spec.specs.declared.Walk.{Walk}
-use Rattle.ie_walk_spec.specs.declared.Headed.{Headed}
+use Rattle.ie_walk_spec.specs.declared.HeaderListEnd.{HeaderListEnd}
 use Rattle.eb_read_spec.specs.Decode.{decoded}
 use Rattle.eb_read_spec.specs.declared.Examination.{Examination}
 use Rattle.eb_read_spec.specs.declared.ReadAnswer.{ReadAnswer}
 
 -- where the walk begins behind the header list: no element is noted
-unfoldable pub headedWalk : Headed → Walk
-headedWalk head = record {
+unfoldable pub walkStart : HeaderListEnd → Walk
+walkStart head = record {
   fault = head .fault;
   faulty = head .faulty;
   skipped = head .skipped;
@@ -31,28 +31,28 @@ headedWalk head = record {
 
 -- no walk
 unfoldable pub blankWalk : Walk
-blankWalk = headedWalk (record { fault = done; faulty = 0; skipped = 0; payload = 0 })
+blankWalk = walkStart (record { fault = done; faulty = 0; skipped = 0; payload = 0 })
 
 -- the elements in byte order: the header list, and the payload list if one follows
 unfoldable pub elementsWalk : List ℕ → ℕ → ℕ → Walk
 elementsWalk s at end =
     let head = headerList s at end in
     ifEq (head .fault) done
-    (ifEq (head .payload) 0 (headedWalk head) (payloadList s (head .payload) end (headedWalk head)))
-    (headedWalk head)
+    (ifEq (head .payload) 0 (walkStart head) (payloadList s (head .payload) end (walkStart head)))
+    (walkStart head)
 
 -- synchronization, timeslot, hopping and slotframe are required
 unfoldable pub missing : Walk → ℕ
-missing w =
-    ifEq (w .synchronization) 0 missingOrTwice
-    (ifEq (w .timeslot) 0 missingOrTwice
-    (ifEq (w .hopping) 0 missingOrTwice
-    (ifEq (w .slotframe) 0 missingOrTwice
+missing walk =
+    ifEq (walk .synchronization) 0 missingOrTwice
+    (ifEq (walk .timeslot) 0 missingOrTwice
+    (ifEq (walk .hopping) 0 missingOrTwice
+    (ifEq (walk .slotframe) 0 missingOrTwice
     done)))
 
 -- the first fault wins, and missing elements come last
 unfoldable pub walkNumber : Walk → ℕ
-walkNumber w = ifEq (w .fault) done (missing w) (w .fault)
+walkNumber walk = ifEq (walk .fault) done (missing walk) (walk .fault)
 
 -- the elements start behind the fixed fields
 unfoldable pub elementsOffset : List ℕ → ℕ
@@ -61,9 +61,9 @@ elementsOffset s = offsetsOf (controlOf (leAt 2 s 0)) .elements
 -- the number of a frame, and what the walk over its elements noted
 unfoldable pub examined : List ℕ → Examination
 examined s =
-    let w = elementsWalk s (elementsOffset s) (length s) in
+    let walk = elementsWalk s (elementsOffset s) (length s) in
     ifEq (macHeaderFault s) done
-    (record { number = walkNumber w; walk = w })
+    (record { number = walkNumber walk; walk = walk })
     (record { number = macHeaderFault s; walk = blankWalk })
 
 -- reading: the number, and the record or, on a refusal, the blank one

@@ -11,7 +11,7 @@ use Rattle.ie_step_spec.specs.declared.HeaderStep.the-variants as header
 use Rattle.ie_step_spec.specs.declared.InnerStep.{InnerStep}
 use Rattle.ie_step_spec.specs.declared.InnerStep.the-variants as inner
 use Rattle.ie_walk_spec.specs.Walk.{bump, headerGo, headerList}
-use Rattle.ie_walk_spec.specs.declared.Headed.{Headed}
+use Rattle.ie_walk_spec.specs.declared.HeaderListEnd.{HeaderListEnd}
 use Rattle.eb_read_spec.proofs.Each.{each-lt, each-eq}
 
 -- ---- a group: a sub-element stands two bytes behind its descriptor's offset, and none is of the kind of joining information
@@ -51,7 +51,7 @@ header-behind s at end =
     (λ none. tt)
 
 -- where payload elements follow
-abbrev pub Follows : ℕ → ℕ → Headed → Type 0
+abbrev pub Follows : ℕ → ℕ → HeaderListEnd → Type 0
 Follows at end head = (head .payload ≡ 0 → ⊥) → (at + 2 ≤ head .payload) × (head .payload ≤ end)
 
 module _ (s : List ℕ) (end : ℕ) where

@@ -17,9 +17,9 @@ use Rattle.ie_step_spec.specs.declared.InnerStep.{InnerStep}
 use Rattle.ie_step_spec.specs.declared.InnerStep.the-variants as inner
 use Rattle.ie_walk_spec.specs.Walk.{seenOf, skipOne, taken, stopped, partTaken, headerList, outerGo, groupGo, payloadList}
 use Rattle.ie_walk_spec.specs.declared.Walk.{Walk}
-use Rattle.ie_walk_spec.specs.declared.Headed.{Headed}
+use Rattle.ie_walk_spec.specs.declared.HeaderListEnd.{HeaderListEnd}
 use Rattle.eb_read_spec.specs.declared.Examination.{Examination}
-use Rattle.eb_read_spec.specs.Read.{headedWalk, blankWalk, elementsWalk, elementsOffset, examined}
+use Rattle.eb_read_spec.specs.Read.{walkStart, blankWalk, elementsWalk, elementsOffset, examined}
 use Rattle.eb_read_spec.proofs.Each.{each-eq}
 use Rattle.eb_read_spec.proofs.Within.{outer-within}
 use Rattle.eb_read_spec.proofs.Noted.{kind-sync-ends, kind-hopping-ends, kind-slotframe-ends}
@@ -107,9 +107,9 @@ module _ (s : List ℕ) (w : Walk) (from to : ℕ) where
 -- ---- the walk
 module _ (s : List ℕ) (start : ℕ) where
   -- no element is noted where the walk begins
-  headed-counts : (head : Headed) (at : ℕ) → start ≤ at → Counts s start (headedWalk head) at
-  unfolding Counts inGroups inJoining bytesAt headedWalk ifEq
-  headed-counts head at h = omega arith
+  start-counts : (head : HeaderListEnd) (at : ℕ) → start ≤ at → Counts s start (walkStart head) at
+  unfolding Counts inGroups inJoining bytesAt walkStart ifEq
+  start-counts head at h = omega arith
 
   module _ (w : Walk) (at to : ℕ) (more : at ≤ to) where
     further : Counts s start w at → Counts s start w to
@@ -198,9 +198,9 @@ lists-count (suc bound) =
 abbrev Counted : List ℕ → ℕ → ℕ → Walk → Type 0
 Counted s at end w = (w .synchronization ≡ 0 → ⊥) → Counts s (at + 2) w end
 
-headed-none : (s : List ℕ) (at end : ℕ) (head : Headed) → Counted s at end (headedWalk head)
-unfolding headedWalk
-headed-none s at end head some = absurd (some refl)
+start-none : (s : List ℕ) (at end : ℕ) (head : HeaderListEnd) → Counted s at end (walkStart head)
+unfolding walkStart
+start-none s at end head some = absurd (some refl)
 
 later : (s : List ℕ) (start from : ℕ) (w : Walk) (end : ℕ) → start ≤ from → Counts s from w end → Counts s start w end
 unfolding Counts
@@ -211,13 +211,13 @@ unfolding elementsWalk payloadList
 elements-count s at end =
     let P : Walk → Type 0 = λ w. Counted s at end w in
     let head = headerList s at end in
-    either-eq P _ _ (each-eq P _ _ _ _ (λ none. headed-none s at end _)
+    either-eq P _ _ (each-eq P _ _ _ _ (λ none. start-none s at end _)
     (λ follow some.
     let from = payload-follows s end at follow in
-    later s _ (head .payload) _ end (from .0) (lists-count _ .0 s _ _ end _ (from .1) (headed-counts s _ head _ (omega arith)))))
-    (headed-none s at end _) _ _
+    later s _ (head .payload) _ end (from .0) (lists-count _ .0 s _ _ end _ (from .1) (start-counts s _ head _ (omega arith)))))
+    (start-none s at end _) _ _
 
 pub examined-count : (s : List ℕ) → (examined s .walk .synchronization ≡ 0 → ⊥) → Counts s (elementsOffset s + 2) (examined s .walk) (length s)
 unfolding examined blankWalk
 examined-count s =
-    either-eq (λ (x : Examination). Counted s (elementsOffset s) (length s) (x .walk)) _ _ (elements-count s (elementsOffset s) (length s)) (headed-none s (elementsOffset s) (length s) _) _ _
+    either-eq (λ (x : Examination). Counted s (elementsOffset s) (length s) (x .walk)) _ _ (elements-count s (elementsOffset s) (length s)) (start-none s (elementsOffset s) (length s) _) _ _

@@ -15,11 +15,11 @@ use Rattle.ie_step_spec.specs.declared.OuterStep.the-variants as outer
 use Rattle.ie_step_spec.proofs.StepLaws.{outer-end}
 use Rattle.ie_walk_spec.specs.Walk.{seenOf, taken, OuterIs}
 use Rattle.ie_walk_spec.specs.declared.Walk.{Walk}
-use Rattle.ie_walk_spec.specs.declared.Headed.{Headed}
+use Rattle.ie_walk_spec.specs.declared.HeaderListEnd.{HeaderListEnd}
 use Rattle.ie_walk_spec.proofs.ListLaws.{header-start, header-payload, outer-start, outer-none, joining-turn, payload-is}
 use Rattle.eb_read_spec.specs.Decode.{joiningAt}
 use Rattle.eb_read_spec.proofs.DecodeLaws.{joining-none}
-use Rattle.eb_read_spec.specs.Read.{headedWalk, blankWalk, elementsWalk, missing}
+use Rattle.eb_read_spec.specs.Read.{walkStart, blankWalk, elementsWalk, missing}
 use Rattle.eb_read_spec.proofs.ReadLaws.{header-and-payload}
 use Rattle.eb_write_spec.specs.Frame.{headerDescriptor, joiningSize, joiningBytes, beaconGroupSize, beaconGroup}
 use Rattle.eb_write_spec.proofs.LengthLaws.{length-group}
@@ -58,9 +58,9 @@ module _ (s : List ℕ) (at end : ℕ) (b : Beacon) (sized : Sized b) (w : Withi
 
   -- what the payload list behind the group gives, all elements give
   gives : (r : Walk) → OuterIs s to end (pastGroup s (at + 2) end b sized w buffer (group .0)) r → r ≡ elementsWalk s at end
-  unfolding blankWalk headedWalk
+  unfolding blankWalk walkStart
   gives r go =
-      let head : Headed = record { fault = 0; faulty = 0; skipped = 0; payload = at + 2 } in
+      let head : HeaderListEnd = record { fault = 0; faulty = 0; skipped = 0; payload = at + 2 } in
       header-and-payload s at end head blankWalk (header-payload s at end at 0 (header.Payload (at + 2)) (list .0) (at + 2) refl (header-start s at end)) refl refl r (λ (z : at + 2 ≡ 0). omega arith)
       (payload-is s (at + 2) end blankWalk r (omega (arith, buffer)) (group-passes s (at + 2) end b sized w buffer (group .0) r go))
 

@@ -16,7 +16,7 @@ use Rattle.ie_walk_spec.specs.Walk.{seenOf, taken, OuterIs}
 use Rattle.ie_walk_spec.specs.declared.Walk.{Walk}
 use Rattle.ie_walk_spec.proofs.ListLaws.{outer-start, outer-enter, GroupLeads, group-start, group-back}
 use Rattle.eb_read_spec.specs.Decode.{synchronizationAt, templateAt, slotframeAt}
-use Rattle.eb_read_spec.specs.Read.{headedWalk, blankWalk, missing}
+use Rattle.eb_read_spec.specs.Read.{walkStart, blankWalk, missing}
 use Rattle.eb_write_spec.specs.Frame.{synchronizationBytes, templateSize, templateBytes, hoppingBytes, slotframeBytes, groupSize, groupBytes, beaconGroupSize, beaconGroup}
 use Rattle.eb_write_spec.proofs.LengthLaws.{length-synchronization, length-template, length-hopping}
 use Rattle.eb_round_trip_spec.specs.ReadBack.{Sized}
@@ -114,7 +114,7 @@ module _ (s : List ℕ) (at end : ℕ) (b : Beacon) (sized : Sized b) (w : Withi
   pastGroup = taken pastThird 27 (fourth + 2) last
 
   leads : GroupLeads s first to end blankWalk last pastGroup
-  unfolding pastFirst pastSecond pastThird pastGroup blankWalk headedWalk seenOf taken ifEq
+  unfolding pastFirst pastSecond pastThird pastGroup blankWalk walkStart seenOf taken ifEq
   leads =
       part-passes s first to end blankWalk fourth pastThird _ _ _ fourth-part (omega (arith, last-is)) refl refl
       (part-passes s first to end blankWalk third pastSecond _ _ _ third-part (omega (arith, last-is)) refl refl
@@ -128,11 +128,11 @@ module _ (s : List ℕ) (at end : ℕ) (b : Beacon) (sized : Sized b) (w : Withi
       (group-back s first to end blankWalk last pastGroup inner.Back (inner-end s last to (omega (arith, last-is))) r refl go leads) (outer-start s at end blankWalk (omega arith))
 
   pub group-fresh : pastGroup .joining ≡ 0
-  unfolding pastFirst pastSecond pastThird pastGroup blankWalk headedWalk taken ifEq
+  unfolding pastFirst pastSecond pastThird pastGroup blankWalk walkStart taken ifEq
   group-fresh = refl
 
   pub group-noted : Noted s b pastGroup
-  unfolding pastFirst pastSecond pastThird pastGroup blankWalk headedWalk taken ifEq
+  unfolding pastFirst pastSecond pastThird pastGroup blankWalk walkStart taken ifEq
   group-noted = record {
     fine = refl;
     all = none-missing pastGroup (omega arith) (omega arith) (omega arith) (omega arith);

@@ -2,31 +2,33 @@
 ghost use mathlib.Core.Path.{_≡_};
 ghost use Prim.Native.Nat.{_+_, _≤_, _<_};
 ghost use Rattle.ie_step_spec.specs.Header.{headerWord, headerAt, headerWithin};
+use ie_step_spec::HEADER_TERMINATION_1;
+use ie_step_spec::HEADER_TERMINATION_2;
 use ie_step_spec::HeaderStep;
 use refusal::CUT;
 use refusal::SHAPE;
 
-// The same of the descriptor that was read there.
+// What the descriptor at an offset says.
 fn header_word(at: usize, end: usize, word: u64) -> HeaderStep
     requires { ⌜ (at + 2 ≤ end) × (word < 65536) ⌝ }
     ensures { λ r. ⌜ (r ≡ headerWord at end word) × headerWithin r at end ⌝ }
 {
-    let length = (word % 128) as usize;
-    let id = word / 128 % 256;
+    let length = (word % 0x80) as usize;
+    let id = word / 0x80 % 0x100;
     let from = at + 2;
     if end - from < length {
         return HeaderStep::Fault(CUT);
     }
-    if word / 32768 == 1 {
+    if word / 0x8000 == 1 {
         return HeaderStep::Fault(SHAPE);
     }
-    if id == 126 {
+    if id == HEADER_TERMINATION_1 {
         if length == 0 {
             return HeaderStep::Payload(from);
         }
         return HeaderStep::Fault(SHAPE);
     }
-    if id == 127 {
+    if id == HEADER_TERMINATION_2 {
         if length == 0 {
             return HeaderStep::End;
         }

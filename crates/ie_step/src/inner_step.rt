@@ -3,25 +3,27 @@ ghost use mathlib.Core.Path.{_≡_};
 ghost use Prim.Native.Nat.{_+_, _≤_, _<_};
 ghost use Rattle.ie_step_spec.specs.Payload.{innerWord, innerAt, innerWithin};
 use ie_step_spec::InnerStep;
+use ie_step_spec::LONG;
 use refusal::CUT;
 
+// What the descriptor at an offset says.
 fn inner_word(at: usize, end: usize, word: u64) -> InnerStep
     requires { ⌜ (at + 2 ≤ end) × (word < 65536) ⌝ }
     ensures { λ r. ⌜ (r ≡ innerWord at end word) × innerWithin r at end ⌝ }
 {
     let from = at + 2;
-    if word / 32768 == 0 {
-        let short = (word % 256) as usize;
+    if word / 0x8000 == 0 {
+        let short = (word % 0x100) as usize;
         if end - from < short {
             return InnerStep::Fault(CUT);
         }
-        return InnerStep::Part(word / 256, from, from + short);
+        return InnerStep::Part(word / 0x100, from, from + short);
     }
-    let long = (word % 2048) as usize;
+    let long = (word % 0x800) as usize;
     if end - from < long {
         return InnerStep::Fault(CUT);
     }
-    InnerStep::Part(128 + word / 2048 % 16, from, from + long)
+    InnerStep::Part(LONG + word / 0x800 % 0x10, from, from + long)
 }
 
 // What stands at an offset of an MLME group.

@@ -2,7 +2,11 @@
 ghost use mathlib.Core.Path.{_≡_};
 ghost use Prim.Native.Nat.{_+_, _≤_, _<_};
 ghost use Rattle.ie_step_spec.specs.Payload.{groupOf, outerWord, outerAt, outerWithin};
+use ie_step_spec::IETF;
+use ie_step_spec::JOINING_SUBTYPE;
+use ie_step_spec::MLME;
 use ie_step_spec::OuterStep;
+use ie_step_spec::PAYLOAD_TERMINATION;
 use refusal::CUT;
 use refusal::SHAPE;
 
@@ -11,14 +15,14 @@ fn group_word(s: &[u8], group: u64, from: usize, to: usize) -> OuterStep
     requires { ⌜ from ≤ to ⌝ }
     ensures { λ r. ⌜ (r ≡ groupOf (now (s .entry)) group from to) × outerWithin r from to ⌝ }
 {
-    if group == 1 {
+    if group == MLME {
         return OuterStep::Group(from, to);
     }
-    if group == 5 {
+    if group == IETF {
         if from == to {
             return OuterStep::Fault(SHAPE);
         }
-        if octets::get::byte(s, from) == 2 {
+        if octets::get::byte(s, from) == JOINING_SUBTYPE {
             return OuterStep::Joining(from + 1, to);
         }
         return OuterStep::Skip(to);
@@ -26,20 +30,21 @@ fn group_word(s: &[u8], group: u64, from: usize, to: usize) -> OuterStep
     OuterStep::Skip(to)
 }
 
+// What the descriptor at an offset says.
 fn outer_word(s: &[u8], at: usize, end: usize, word: u64) -> OuterStep
     requires { ⌜ (at + 2 ≤ end) × (word < 65536) ⌝ }
     ensures { λ r. ⌜ (r ≡ outerWord (now (s .entry)) at end word) × outerWithin r (at + 2) end ⌝ }
 {
-    let size = (word % 2048) as usize;
-    let group = word / 2048 % 16;
+    let size = (word % 0x800) as usize;
+    let group = word / 0x800 % 0x10;
     let from = at + 2;
     if end - from < size {
         return OuterStep::Fault(CUT);
     }
-    if word / 32768 == 0 {
+    if word / 0x8000 == 0 {
         return OuterStep::Fault(SHAPE);
     }
-    if group == 15 {
+    if group == PAYLOAD_TERMINATION {
         if size == 0 {
             return OuterStep::End;
         }

@@ -8,16 +8,24 @@ use Rattle.refusal.specs.Refusal.{cut, shape}
 use Rattle.ie_step_spec.specs.declared.HeaderStep.{HeaderStep}
 use Rattle.ie_step_spec.specs.declared.HeaderStep.the-variants.{End, Payload, Element, Fault}
 
--- a descriptor: bits 0-6 length, 7-14 ID, 15 zero. First the length must fit (2), then bit 15 be zero (6). ID 0x7E ends the list and
--- payload elements follow, ID 0x7F ends it with none following; either with a length is 6. Others are elements
+-- header termination 1: it ends the list, and payload elements follow
+abbrev pub headerTermination1 : ℕ
+headerTermination1 = 0x7E
+
+-- header termination 2: it ends the list, and none follow
+abbrev pub headerTermination2 : ℕ
+headerTermination2 = 0x7F
+
+-- a descriptor: bits 0-6 length, 7-14 ID, 15 zero. First the length must fit (2), then bit 15 be zero (6). A
+-- termination with a length is 6. Others are elements
 unfoldable pub headerWord : ℕ → ℕ → ℕ → HeaderStep
 headerWord at end word =
-    let size : ℕ = word % 128 in
-    let id : ℕ = word / 128 % 256 in
+    let size : ℕ = word % 0x80 in
+    let id : ℕ = word / 0x80 % 0x100 in
     ifLt (end - (at + 2)) size (Fault cut)
-    (ifEq (word / 32768) 1 (Fault shape)
-    (ifEq id 126 (ifEq size 0 (Payload (at + 2)) (Fault shape))
-    (ifEq id 127 (ifEq size 0 End (Fault shape))
+    (ifEq (word / 0x8000) 1 (Fault shape)
+    (ifEq id headerTermination1 (ifEq size 0 (Payload (at + 2)) (Fault shape))
+    (ifEq id headerTermination2 (ifEq size 0 End (Fault shape))
     (Element id (at + 2) (at + 2 + size)))))
 
 -- at the end of the bytes the list ends; one byte left over is a cut descriptor (2)

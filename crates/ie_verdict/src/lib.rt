@@ -3,7 +3,12 @@
 ghost use mathlib.Core.Path.{_≡_};
 ghost use Prim.Native.Nat.{_<_};
 ghost use Rattle.ie_verdict_spec.specs.Verdict.{onceOnly, syncFault, timeslotFault, hoppingFault, joiningFault, partFault};
+use ie_verdict_spec::HOPPING;
+use ie_verdict_spec::JOINING;
+use ie_verdict_spec::SLOTFRAME;
+use ie_verdict_spec::SYNCHRONIZATION;
 use ie_verdict_spec::Seen;
+use ie_verdict_spec::TIMESLOT;
 use refusal::DONE;
 use refusal::MISSING_OR_TWICE;
 use refusal::OUT_OF_LIMITS;
@@ -11,6 +16,10 @@ use refusal::SHAPE;
 
 pub mod slotframe_fault;
 
+// The P flag in the first byte of joining information.
+const PROXIED: u64 = 0x40;
+
+// 7 for an element of a kind that was taken before.
 fn twice(seen: usize) -> u8
     ensures { λ r. ⌜ r ≡ onceOnly seen ⌝ }
 {
@@ -79,26 +88,30 @@ fn joining_fault(length: usize, seen: usize, proxied: u64) -> u8
     twice(seen)
 }
 
-// The fault of an element of some kind that lies from an offset to another, and 0 if it has none; an unknown kind has none. Kinds: a
-// short sub-element's ID, 128 and a long one's, 256 and the subtype of an IETF group.
+// The fault of an element of some kind that lies from an offset to another, and 0 if it has none; an unknown kind has none. Kinds
+// are those of `ie_verdict_spec`.
 pub fn part_fault(s: &[u8], kind: u64, from: usize, to: usize, seen: Seen) -> u8
     ensures { λ r. ⌜ r ≡ partFault (now (s .entry)) kind from to seen ⌝ }
 {
     let length = octets::span(from, to);
-    if kind == 26 {
+    if kind == SYNCHRONIZATION {
         return sync_fault(length, seen.synchronization);
     }
-    if kind == 28 {
+    if kind == TIMESLOT {
         return timeslot_fault(length, seen.timeslot, octets::get::byte(s, from));
     }
-    if kind == 137 {
+    if kind == HOPPING {
         return hopping_fault(length, seen.hopping);
     }
-    if kind == 27 {
+    if kind == SLOTFRAME {
         return crate::slotframe_fault::slotframe_fault(s, from, to, seen.slotframe);
     }
-    if kind == 258 {
-        return joining_fault(length, seen.joining, octets::get::byte(s, from) / 64 % 2);
+    if kind == JOINING {
+        return joining_fault(
+            length,
+            seen.joining,
+            octets::get::byte(s, from) / PROXIED % 2,
+        );
     }
     DONE
 }

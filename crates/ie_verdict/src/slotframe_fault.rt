@@ -24,6 +24,7 @@ fn slotframe_shape(length: usize, count: u64, links: usize) -> u8
     DONE
 }
 
+// The limits of a slotframe and link element.
 fn slotframe_limits(size: u64, links: usize, below: bool) -> u8
     ensures { λ r. ⌜ r ≡ slotframeLimits size links below ⌝ }
 {
@@ -42,12 +43,13 @@ fn slotframe_limits(size: u64, links: usize, below: bool) -> u8
     OUT_OF_LIMITS
 }
 
-fn timeslots_fit(s: &[u8], at: usize, n: usize, size: u64) -> bool
-    requires { ⌜ (at + 5 * n < 2 ^ 64) × (n < 256) ⌝ }
-    ensures { λ r. ⌜ r ≡ timeslotsFit (now (s .entry)) at n size ⌝ }
+// Whether the timeslots of so many links from an offset on are below the size.
+fn timeslots_fit(s: &[u8], at: usize, links: usize, size: u64) -> bool
+    requires { ⌜ (at + 5 * links < 2 ^ 64) × (links < 256) ⌝ }
+    ensures { λ r. ⌜ r ≡ timeslotsFit (now (s .entry)) at links size ⌝ }
 {
     let mut offset = at;
-    let mut left = n;
+    let mut left = links;
     while 0 < left {
         if size <= octets::get::le(s, offset, 2) {
             return false;

@@ -62,25 +62,25 @@ slotframeFaultAt s from bytes seen =
     let size : ℕ = leAt 2 s (from + 2) in
     slotframeFault bytes seen (getD s from 0) size links (timeslotsFit s (from + 5) links size)
 
--- kinds of known elements: the short sub-element 0x1A
+-- kinds of known elements: the short sub-element synchronization
 abbrev pub synchronizationKind : ℕ
-synchronizationKind = 26
+synchronizationKind = 0x1A
 
--- the short sub-element 0x1B
+-- the short sub-element slotframe and link
 abbrev pub slotframeKind : ℕ
-slotframeKind = 27
+slotframeKind = 0x1B
 
--- the short sub-element 0x1C
+-- the short sub-element timeslot
 abbrev pub timeslotKind : ℕ
-timeslotKind = 28
+timeslotKind = 0x1C
 
--- the long sub-element 0x9
+-- the long sub-element channel hopping
 abbrev pub hoppingKind : ℕ
-hoppingKind = 128 + 9
+hoppingKind = 0x80 + 0x9
 
--- IETF subtype 2
+-- the IETF subtype joining information
 abbrev pub joiningKind : ℕ
-joiningKind = 256 + 2
+joiningKind = 0x100 + 2
 
 -- the fault of an element of a kind that lies from an offset to another; P is bit 6 of joining information's first byte
 unfoldable pub partFault : List ℕ → ℕ → ℕ → ℕ → Seen → ℕ
@@ -90,5 +90,5 @@ partFault s kind from to seen =
     (ifEq kind timeslotKind (timeslotFault size (seen .timeslot) (getD s from 0))
     (ifEq kind hoppingKind (hoppingFault size (seen .hopping))
     (ifEq kind slotframeKind (slotframeFaultAt s from size (seen .slotframe))
-    (ifEq kind joiningKind (joiningFault size (seen .joining) (getD s from 0 / 64 % 2))
+    (ifEq kind joiningKind (joiningFault size (seen .joining) (getD s from 0 / 0x40 % 2))
     done))))

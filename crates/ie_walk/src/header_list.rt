@@ -2,10 +2,10 @@
 ghost use mathlib.Core.Path.{_≡_};
 ghost use Rattle.ie_walk_spec.specs.Walk.{headerList};
 use ie_step_spec::HeaderStep;
-use ie_walk_spec::Headed;
+use ie_walk_spec::HeaderListEnd;
 
 // The header list from an offset to an end.
-pub fn header_list(s: &[u8], at: usize, end: usize) -> Headed
+pub fn header_list(s: &[u8], at: usize, end: usize) -> HeaderListEnd
     ensures { λ r. ⌜ r ≡ headerList (now (s .entry)) at end ⌝ }
 {
     let mut i = at;
@@ -13,7 +13,7 @@ pub fn header_list(s: &[u8], at: usize, end: usize) -> Headed
     loop {
         match ie_step::header_step::header_step(s, i, end) {
             HeaderStep::End => {
-                return Headed {
+                return HeaderListEnd {
                     fault: 0,
                     faulty: 0,
                     skipped,
@@ -21,7 +21,7 @@ pub fn header_list(s: &[u8], at: usize, end: usize) -> Headed
                 };
             }
             HeaderStep::Payload(from) => {
-                return Headed {
+                return HeaderListEnd {
                     fault: 0,
                     faulty: 0,
                     skipped,
@@ -33,7 +33,7 @@ pub fn header_list(s: &[u8], at: usize, end: usize) -> Headed
                 i = to;
             }
             HeaderStep::Fault(number) => {
-                return Headed {
+                return HeaderListEnd {
                     fault: number as usize,
                     faulty: i,
                     skipped,

@@ -6,11 +6,11 @@ pub mod header_list;
 pub mod payload_list;
 
 // One more, to 255: no frame has as many elements.
-pub(crate) fn one_more(n: usize) -> usize
-    ensures { λ r. ⌜ r ≡ bump n ⌝ }
+pub(crate) fn one_more(count: usize) -> usize
+    ensures { λ r. ⌜ r ≡ bump count ⌝ }
 {
-    if n < 255 {
-        return n + 1;
+    if count < 255 {
+        return count + 1;
     }
-    n
+    count
 }

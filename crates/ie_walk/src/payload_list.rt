@@ -5,153 +5,164 @@ ghost use Prim.Native.Nat.{_≤_};
 ghost use Rattle.ie_walk_spec.specs.Walk.{seenOf, taken, stopped, skipOne, partTaken, OuterIs, GroupIs, payloadList};
 use ie_step_spec::InnerStep;
 use ie_step_spec::OuterStep;
+use ie_verdict_spec::HOPPING;
+use ie_verdict_spec::JOINING;
+use ie_verdict_spec::SLOTFRAME;
+use ie_verdict_spec::SYNCHRONIZATION;
 use ie_verdict_spec::Seen;
+use ie_verdict_spec::TIMESLOT;
 use ie_walk_spec::Walk;
 use refusal::DONE;
 
-fn seen_of(w: Walk) -> Seen
-    ensures { λ r. ⌜ r ≡ seenOf w ⌝ }
+// Which known elements were taken before.
+fn seen_of(walk: Walk) -> Seen
+    ensures { λ r. ⌜ r ≡ seenOf walk ⌝ }
 {
     Seen {
-        synchronization: w.synchronization,
-        timeslot: w.timeslot,
-        hopping: w.hopping,
-        slotframe: w.slotframe,
-        joining: w.joining,
+        synchronization: walk.synchronization,
+        timeslot: walk.timeslot,
+        hopping: walk.hopping,
+        slotframe: walk.slotframe,
+        joining: walk.joining,
     }
 }
 
-fn skip_one(w: Walk) -> Walk
-    ensures { λ r. ⌜ r ≡ skipOne w ⌝ }
+// Counts an element that is skipped.
+fn skip_one(walk: Walk) -> Walk
+    ensures { λ r. ⌜ r ≡ skipOne walk ⌝ }
 {
     Walk {
-        skipped: crate::one_more(w.skipped),
-        ..w
+        skipped: crate::one_more(walk.skipped),
+        ..walk
     }
 }
 
-fn stop(w: Walk, fault: u8, at: usize) -> Walk
-    ensures { λ r. ⌜ r ≡ stopped w fault at ⌝ }
+// Stops at a fault, whose element starts at `at`.
+fn stop(walk: Walk, fault: u8, at: usize) -> Walk
+    ensures { λ r. ⌜ r ≡ stopped walk fault at ⌝ }
 {
     Walk {
         fault: fault as usize,
         faulty: at,
-        ..w
+        ..walk
     }
 }
 
 // Notes an element without a fault; one of an unknown kind is skipped.
-fn take(w: Walk, kind: u64, from: usize, to: usize) -> Walk
-    ensures { λ r. ⌜ r ≡ taken w kind from to ⌝ }
+fn take(walk: Walk, kind: u64, from: usize, to: usize) -> Walk
+    ensures { λ r. ⌜ r ≡ taken walk kind from to ⌝ }
 {
-    if kind == 26 {
+    if kind == SYNCHRONIZATION {
         return Walk {
             synchronization: from,
-            ..w
+            ..walk
         };
     }
-    if kind == 28 {
+    if kind == TIMESLOT {
         return Walk {
             timeslot: from,
             timeslotend: to,
-            ..w
+            ..walk
         };
     }
-    if kind == 137 {
-        return Walk { hopping: from, ..w };
+    if kind == HOPPING {
+        return Walk {
+            hopping: from,
+            ..walk
+        };
     }
-    if kind == 27 {
+    if kind == SLOTFRAME {
         return Walk {
             slotframe: from,
-            ..w
+            ..walk
         };
     }
-    if kind == 258 {
+    if kind == JOINING {
         return Walk {
             joining: from,
             joiningend: to,
-            ..w
+            ..walk
         };
     }
-    skip_one(w)
+    skip_one(walk)
 }
 
 // An element of some kind whose descriptor stands at `at`: it is noted, or the walk stops there.
-fn part(s: &[u8], w: Walk, kind: u64, from: usize, to: usize, at: usize) -> Walk
-    ensures { λ r. ⌜ r ≡ partTaken (now (s .entry)) w kind from to at ⌝ }
+fn part(s: &[u8], walk: Walk, kind: u64, from: usize, to: usize, at: usize) -> Walk
+    ensures { λ r. ⌜ r ≡ partTaken (now (s .entry)) walk kind from to at ⌝ }
 {
-    let fault = ie_verdict::part_fault(s, kind, from, to, seen_of(w));
+    let fault = ie_verdict::part_fault(s, kind, from, to, seen_of(walk));
     if fault == DONE {
-        return take(w, kind, from, to);
+        return take(walk, kind, from, to);
     }
-    stop(w, fault, at)
+    stop(walk, fault, at)
 }
 
 // The payload list from an offset on.
-fn outer(s: &[u8], at: usize, end: usize, w: Walk) -> Walk
+fn outer(s: &[u8], at: usize, end: usize, walk: Walk) -> Walk
     requires { ⌜ at ≤ end ⌝ }
-    ensures { λ r. ⌜ OuterIs (now (s .entry)) at end w r ⌝ }
+    ensures { λ r. ⌜ OuterIs (now (s .entry)) at end walk r ⌝ }
 {
     let mut i = at;
-    let mut q = w;
+    let mut noted = walk;
     loop {
         match ie_step::outer_step::outer_step(s, i, end) {
             OuterStep::End => {
-                return q;
+                return noted;
             }
             OuterStep::Group(from, to) => {
-                return group(s, from, to, end, q);
+                return group(s, from, to, end, noted);
             }
             OuterStep::Joining(from, to) => {
-                q = part(s, q, 258, from, to, i);
-                if q.fault != 0 {
-                    return q;
+                noted = part(s, noted, JOINING, from, to, i);
+                if noted.fault != 0 {
+                    return noted;
                 }
                 i = to;
             }
             OuterStep::Skip(to) => {
-                q = skip_one(q);
+                noted = skip_one(noted);
                 i = to;
             }
             OuterStep::Fault(number) => {
-                return stop(q, number, i);
+                return stop(noted, number, i);
             }
         }
     }
 }
 
 // An MLME group from an offset of it to its end, and behind it the payload list.
-fn group(s: &[u8], at: usize, to: usize, end: usize, w: Walk) -> Walk
+fn group(s: &[u8], at: usize, to: usize, end: usize, walk: Walk) -> Walk
     requires { ⌜ (at ≤ to) × (to ≤ end) ⌝ }
-    ensures { λ r. ⌜ GroupIs (now (s .entry)) at to end w r ⌝ }
+    ensures { λ r. ⌜ GroupIs (now (s .entry)) at to end walk r ⌝ }
 {
     let mut i = at;
-    let mut q = w;
+    let mut noted = walk;
     loop {
         match ie_step::inner_step::inner_step(s, i, to) {
             InnerStep::Back => {
-                return outer(s, to, end, q);
+                return outer(s, to, end, noted);
             }
             InnerStep::Part(kind, from, next) => {
-                q = part(s, q, kind, from, next, i);
-                if q.fault != 0 {
-                    return q;
+                noted = part(s, noted, kind, from, next, i);
+                if noted.fault != 0 {
+                    return noted;
                 }
                 i = next;
             }
             InnerStep::Fault(number) => {
-                return stop(q, number, i);
+                return stop(noted, number, i);
             }
         }
     }
 }
 
 // The payload list from an offset to an end, with what was noted before.
-pub fn payload_list(s: &[u8], at: usize, end: usize, w: Walk) -> Walk
-    ensures { λ r. ⌜ r ≡ payloadList (now (s .entry)) at end w ⌝ }
+pub fn payload_list(s: &[u8], at: usize, end: usize, walk: Walk) -> Walk
+    ensures { λ r. ⌜ r ≡ payloadList (now (s .entry)) at end walk ⌝ }
 {
     if end < at {
-        return w;
+        return walk;
     }
-    outer(s, at, end, w)
+    outer(s, at, end, walk)
 }

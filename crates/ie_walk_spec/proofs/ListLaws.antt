@@ -18,12 +18,12 @@ use Rattle.ie_step_spec.specs.declared.InnerStep.{InnerStep}
 use Rattle.ie_step_spec.specs.declared.InnerStep.the-variants as inner
 use Rattle.ie_walk_spec.specs.Walk.{bump, skipOne, stopped, partTaken, headerGo, headerList, outerGo, groupGo, OuterIs, GroupIs, payloadList}
 use Rattle.ie_walk_spec.specs.declared.Walk.{Walk}
-use Rattle.ie_walk_spec.specs.declared.Headed.{Headed}
+use Rattle.ie_walk_spec.specs.declared.HeaderListEnd.{HeaderListEnd}
 
 -- ---- the header list
 pub record HeaderLeads (s : List ℕ) (at end i n : ℕ) : Type 0 where
   pub from : at ≤ i
-  pub gives : (r : Headed) → ((bound : ℕ) → end - i < bound → r ≡ headerGo bound s i end n) → r ≡ headerList s at end
+  pub gives : (r : HeaderListEnd) → ((bound : ℕ) → end - i < bound → r ≡ headerGo bound s i end n) → r ≡ headerList s at end
 
 pub header-start : (s : List ℕ) (at end : ℕ) → HeaderLeads s at end at 0
 unfolding headerList
@@ -31,7 +31,7 @@ header-start s at end = record { from = omega arith; gives = λ r h. h (suc end)
 
 module _ (s : List ℕ) (at end i n : ℕ) (o : HeaderStep) (is : o ≡ headerAt s i end) where
   -- a step that ends the list
-  ends : (r : Headed) → ((bound : ℕ) → r ≡ headerGo (suc bound) s i end n) → HeaderLeads s at end i n → r ≡ headerList s at end
+  ends : (r : HeaderListEnd) → ((bound : ℕ) → r ≡ headerGo (suc bound) s i end n) → HeaderLeads s at end i n → r ≡ headerList s at end
   ends r go leads = leads .gives r (λ bound lt. larger bound lt)
     where
       larger : (bound : ℕ) → end - i < bound → r ≡ headerGo bound s i end n
@@ -61,7 +61,7 @@ module _ (s : List ℕ) (at end i n : ℕ) (o : HeaderStep) (is : o ≡ headerAt
     unfolding headerGo
     header-turn m k leads = record { from = omega (arith, inside, leads .from); gives = λ r h. leads .gives r (λ bound lt. one bound lt r h) }
       where
-        one : (bound : ℕ) → end - i < bound → (r : Headed) → ((b : ℕ) → end - to < b → r ≡ headerGo b s to end m) → r ≡ headerGo bound s i end n
+        one : (bound : ℕ) → end - i < bound → (r : HeaderListEnd) → ((b : ℕ) → end - to < b → r ≡ headerGo b s to end m) → r ≡ headerGo bound s i end n
         one zero lt r h = absurd (not-suc-le-zero lt)
         one (suc bound) lt r h = rw (sym is ∙ e, headerGo, ← k) (h bound (omega (arith, inside)))
 

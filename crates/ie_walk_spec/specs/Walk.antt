@@ -13,7 +13,7 @@ use Rattle.ie_step_spec.specs.declared.HeaderStep.the-variants as header
 use Rattle.ie_step_spec.specs.declared.OuterStep.the-variants as outer
 use Rattle.ie_step_spec.specs.declared.InnerStep.the-variants as inner
 use Rattle.ie_walk_spec.specs.declared.Walk.{Walk}
-use Rattle.ie_walk_spec.specs.declared.Headed.{Headed}
+use Rattle.ie_walk_spec.specs.declared.HeaderListEnd.{HeaderListEnd}
 
 -- one more, to 255: no frame has as many elements
 unfoldable pub bump : ℕ → ℕ
@@ -21,67 +21,67 @@ bump n = ifLt n 255 (n + 1) n
 
 -- which known elements were taken before
 unfoldable pub seenOf : Walk → Seen
-seenOf w = record { synchronization = w .synchronization; timeslot = w .timeslot; hopping = w .hopping; slotframe = w .slotframe; joining = w .joining }
+seenOf walk = record { synchronization = walk .synchronization; timeslot = walk .timeslot; hopping = walk .hopping; slotframe = walk .slotframe; joining = walk .joining }
 
 -- an element that is skipped is counted
 unfoldable pub skipOne : Walk → Walk
-skipOne w = record {
-  fault = w .fault;
-  faulty = w .faulty;
-  skipped = bump (w .skipped);
-  synchronization = w .synchronization;
-  timeslot = w .timeslot;
-  timeslotend = w .timeslotend;
-  hopping = w .hopping;
-  slotframe = w .slotframe;
-  joining = w .joining;
-  joiningend = w .joiningend;
+skipOne walk = record {
+  fault = walk .fault;
+  faulty = walk .faulty;
+  skipped = bump (walk .skipped);
+  synchronization = walk .synchronization;
+  timeslot = walk .timeslot;
+  timeslotend = walk .timeslotend;
+  hopping = walk .hopping;
+  slotframe = walk .slotframe;
+  joining = walk .joining;
+  joiningend = walk .joiningend;
 }
 
 -- an element without a fault is noted where it lies; one of an unknown kind is skipped
 unfoldable pub taken : Walk → ℕ → ℕ → ℕ → Walk
-taken w kind from to = record {
-  fault = w .fault;
-  faulty = w .faulty;
+taken walk kind from to = record {
+  fault = walk .fault;
+  faulty = walk .faulty;
   skipped =
-      ifEq kind synchronizationKind (w .skipped)
-      (ifEq kind timeslotKind (w .skipped)
-      (ifEq kind hoppingKind (w .skipped)
-      (ifEq kind slotframeKind (w .skipped)
-      (ifEq kind joiningKind (w .skipped)
-      (bump (w .skipped))))));
-  synchronization = ifEq kind synchronizationKind from (w .synchronization);
-  timeslot = ifEq kind timeslotKind from (w .timeslot);
-  timeslotend = ifEq kind timeslotKind to (w .timeslotend);
-  hopping = ifEq kind hoppingKind from (w .hopping);
-  slotframe = ifEq kind slotframeKind from (w .slotframe);
-  joining = ifEq kind joiningKind from (w .joining);
-  joiningend = ifEq kind joiningKind to (w .joiningend);
+      ifEq kind synchronizationKind (walk .skipped)
+      (ifEq kind timeslotKind (walk .skipped)
+      (ifEq kind hoppingKind (walk .skipped)
+      (ifEq kind slotframeKind (walk .skipped)
+      (ifEq kind joiningKind (walk .skipped)
+      (bump (walk .skipped))))));
+  synchronization = ifEq kind synchronizationKind from (walk .synchronization);
+  timeslot = ifEq kind timeslotKind from (walk .timeslot);
+  timeslotend = ifEq kind timeslotKind to (walk .timeslotend);
+  hopping = ifEq kind hoppingKind from (walk .hopping);
+  slotframe = ifEq kind slotframeKind from (walk .slotframe);
+  joining = ifEq kind joiningKind from (walk .joining);
+  joiningend = ifEq kind joiningKind to (walk .joiningend);
 }
 
 -- the walk stops at a fault, whose element starts at `at`
 unfoldable pub stopped : Walk → ℕ → ℕ → Walk
-stopped w fault at = record {
+stopped walk fault at = record {
   fault = fault;
   faulty = at;
-  skipped = w .skipped;
-  synchronization = w .synchronization;
-  timeslot = w .timeslot;
-  timeslotend = w .timeslotend;
-  hopping = w .hopping;
-  slotframe = w .slotframe;
-  joining = w .joining;
-  joiningend = w .joiningend;
+  skipped = walk .skipped;
+  synchronization = walk .synchronization;
+  timeslot = walk .timeslot;
+  timeslotend = walk .timeslotend;
+  hopping = walk .hopping;
+  slotframe = walk .slotframe;
+  joining = walk .joining;
+  joiningend = walk .joiningend;
 }
 
 -- an element of some kind: noted if it has no fault, and else the walk stops there
 unfoldable pub partTaken : List ℕ → Walk → ℕ → ℕ → ℕ → ℕ → Walk
-partTaken s w kind from to at =
-    let fault : ℕ = partFault s kind from to (seenOf w) in
-    ifEq fault done (taken w kind from to) (stopped w fault at)
+partTaken s walk kind from to at =
+    let fault : ℕ = partFault s kind from to (seenOf walk) in
+    ifEq fault done (taken walk kind from to) (stopped walk fault at)
 
 -- how the header list ends: elements are skipped, and payload elements follow, or none do, or there is a fault
-unfoldable pub headerGo : ℕ → List ℕ → ℕ → ℕ → ℕ → Headed
+unfoldable pub headerGo : ℕ → List ℕ → ℕ → ℕ → ℕ → HeaderListEnd
 headerGo zero s at end skipped = record { fault = done; faulty = 0; skipped = skipped; payload = 0 }
 headerGo (suc bound) s at end skipped =
     elim (headerAt s at end) [
@@ -92,41 +92,41 @@ headerGo (suc bound) s at end skipped =
     ]
 
 -- the header list from an offset to an end
-unfoldable pub headerList : List ℕ → ℕ → ℕ → Headed
+unfoldable pub headerList : List ℕ → ℕ → ℕ → HeaderListEnd
 headerList s at end = headerGo (suc end) s at end 0
 
 -- from the outer list into a group, and back to the outer list at the group's end
 unfoldable mutual
   -- the payload list from an offset on
   pub outerGo : ℕ → List ℕ → ℕ → ℕ → Walk → Walk
-  outerGo zero s at end w = w
-  outerGo (suc bound) s at end w =
+  outerGo zero s at end walk = walk
+  outerGo (suc bound) s at end walk =
       elim (outerAt s at end) [
-        | outer.End ↦ w
-        | outer.Group from to ↦ groupGo bound s from to end w
-        | outer.Joining from to ↦ let t : Walk = partTaken s w joiningKind from to at in ifEq (t .fault) done (outerGo bound s to end t) t
-        | outer.Skip to ↦ outerGo bound s to end (skipOne w)
-        | outer.Fault number ↦ stopped w number at
+        | outer.End ↦ walk
+        | outer.Group from to ↦ groupGo bound s from to end walk
+        | outer.Joining from to ↦ let t : Walk = partTaken s walk joiningKind from to at in ifEq (t .fault) done (outerGo bound s to end t) t
+        | outer.Skip to ↦ outerGo bound s to end (skipOne walk)
+        | outer.Fault number ↦ stopped walk number at
       ]
 
   -- a group from an offset of it to its end, and behind it the payload list
   pub groupGo : ℕ → List ℕ → ℕ → ℕ → ℕ → Walk → Walk
-  groupGo zero s at to end w = w
-  groupGo (suc bound) s at to end w =
+  groupGo zero s at to end walk = walk
+  groupGo (suc bound) s at to end walk =
       elim (innerAt s at to) [
-        | inner.Back ↦ outerGo bound s to end w
-        | inner.Part kind from next ↦ let t : Walk = partTaken s w kind from next at in ifEq (t .fault) done (groupGo bound s next to end t) t
-        | inner.Fault number ↦ stopped w number at
+        | inner.Back ↦ outerGo bound s to end walk
+        | inner.Part kind from next ↦ let t : Walk = partTaken s walk kind from next at in ifEq (t .fault) done (groupGo bound s next to end t) t
+        | inner.Fault number ↦ stopped walk number at
       ]
 
 -- what the payload list gives, whatever the bound is, if it is large enough
 unfoldable pub OuterIs : List ℕ → ℕ → ℕ → Walk → Walk → Type 0
-OuterIs s at end w r = (bound : ℕ) → 2 * (end - at) < bound → r ≡ outerGo bound s at end w
+OuterIs s at end walk r = (bound : ℕ) → 2 * (end - at) < bound → r ≡ outerGo bound s at end walk
 
 -- the same of a group
 unfoldable pub GroupIs : List ℕ → ℕ → ℕ → ℕ → Walk → Walk → Type 0
-GroupIs s at to end w r = (bound : ℕ) → 2 * (end - at) + 1 < bound → r ≡ groupGo bound s at to end w
+GroupIs s at to end walk r = (bound : ℕ) → 2 * (end - at) + 1 < bound → r ≡ groupGo bound s at to end walk
 
 -- the payload list from an offset to an end, with what was noted before
 unfoldable pub payloadList : List ℕ → ℕ → ℕ → Walk → Walk
-payloadList s at end w = outerGo (suc (2 * end)) s at end w
+payloadList s at end walk = outerGo (suc (2 * end)) s at end walk

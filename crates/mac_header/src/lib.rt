@@ -4,7 +4,23 @@ ghost use Prim.Native.Nat.{_≤_};
 ghost use Rattle.octets_spec.specs.Choice.{ifEq};
 ghost use Rattle.mac_header_spec.specs.Control.{controlOf, addressLength, offsetsOf};
 use mac_header_spec::Control;
+use mac_header_spec::EXTENDED;
 use mac_header_spec::FieldOffsets;
+
+// Where the parts of frame control begin, each as the value of its lowest bit: security enabled.
+const SECURITY: u64 = 0x0008;
+// PAN ID compression.
+const PAN_ID_COMPRESSION: u64 = 0x0040;
+// Sequence number suppression.
+const SEQUENCE_SUPPRESSION: u64 = 0x0100;
+// Information elements present.
+const ELEMENTS_PRESENT: u64 = 0x0200;
+// The destination's address mode.
+const DESTINATION_MODE: u64 = 0x0400;
+// The frame version.
+const VERSION: u64 = 0x1000;
+// The source's address mode.
+const SOURCE_MODE: u64 = 0x4000;
 
 // The parts of a frame control word.
 pub fn control_of(word: u64) -> Control
@@ -12,25 +28,27 @@ pub fn control_of(word: u64) -> Control
 {
     Control {
         kind: word % 8,
-        security: word / 8 % 2,
-        compression: word / 64 % 2,
-        suppressed: word / 256 % 2,
-        elements: word / 512 % 2,
-        destination: word / 1024 % 4,
-        version: word / 4096 % 4,
-        source: word / 16384 % 4,
+        security: word / SECURITY % 2,
+        compression: word / PAN_ID_COMPRESSION % 2,
+        suppressed: word / SEQUENCE_SUPPRESSION % 2,
+        elements: word / ELEMENTS_PRESENT % 2,
+        destination: word / DESTINATION_MODE % 4,
+        version: word / VERSION % 4,
+        source: word / SOURCE_MODE % 4,
     }
 }
 
+// The bytes of an address.
 fn address_length(mode: u64) -> usize
     ensures { λ r. ⌜ (r ≡ addressLength mode) × (r ≤ 8) ⌝ }
 {
-    if mode == 3 {
+    if mode == EXTENDED {
         return 8;
     }
     2
 }
 
+// The PAN ID stands behind frame control and the sequence number.
 fn pan_offset(suppressed: u64) -> usize
     ensures { λ r. ⌜ (r ≡ ifEq suppressed 0 3 2) × (r ≤ 3) ⌝ }
 {

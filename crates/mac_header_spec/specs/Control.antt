@@ -9,28 +9,48 @@ use Rattle.refusal.specs.Refusal.{done, frameTooLong, cut, wrongType, secured, 
 use Rattle.mac_header_spec.specs.declared.Control.{Control}
 use Rattle.mac_header_spec.specs.declared.FieldOffsets.{FieldOffsets}
 
+-- the type of a beacon
+abbrev pub beaconType : ℕ
+beaconType = 0
+
+-- the version of IEEE 802.15.4-2015
+abbrev pub version2015 : ℕ
+version2015 = 2
+
+-- the mode of a short address
+abbrev pub shortMode : ℕ
+shortMode = 2
+
+-- the mode of an extended one
+abbrev pub extendedMode : ℕ
+extendedMode = 3
+
+-- the short address that all nodes receive
+abbrev pub broadcast : ℕ
+broadcast = 0xFFFF
+
 -- frame control, bits 0 to 15: type (3), security, pending, acknowledge request, PAN ID compression, reserved, sequence suppressed,
 -- elements present, destination mode (2), version (2), source mode (2)
 unfoldable pub controlOf : ℕ → Control
 controlOf word = record {
   kind = word % 8;
-  security = word / 8 % 2;
-  compression = word / 64 % 2;
-  suppressed = word / 256 % 2;
-  elements = word / 512 % 2;
-  destination = word / 1024 % 4;
-  version = word / 4096 % 4;
-  source = word / 16384 % 4;
+  security = word / 0x0008 % 2;
+  compression = word / 0x0040 % 2;
+  suppressed = word / 0x0100 % 2;
+  elements = word / 0x0200 % 2;
+  destination = word / 0x0400 % 4;
+  version = word / 0x1000 % 4;
+  source = word / 0x4000 % 4;
 }
 
--- the accepted form: type 0 and version 2 (3), no security (4), destination short, source short or extended, compression 1, elements present 1 (5)
+-- the accepted form: a beacon of version 2015 (3), no security (4), destination short, source short or extended, compression 1, elements present 1 (5)
 unfoldable pub formFault : Control → ℕ
 formFault control =
-    ifEq (control .kind) 0
-    (ifEq (control .version) 2
+    ifEq (control .kind) beaconType
+    (ifEq (control .version) version2015
     (ifEq (control .security) 0
-    (ifEq (control .destination) 2
-    (ifLt (control .source) 2 addressing
+    (ifEq (control .destination) shortMode
+    (ifLt (control .source) shortMode addressing
     (ifEq (control .compression) 1
     (ifEq (control .elements) 1
     done
@@ -41,9 +61,9 @@ formFault control =
     wrongType)
     wrongType
 
--- the bytes of an address: mode 2 short, mode 3 extended
+-- the bytes of an address
 unfoldable pub addressLength : ℕ → ℕ
-addressLength mode = ifEq mode 3 8 2
+addressLength mode = ifEq mode extendedMode 8 2
 
 -- the fields: control word, sequence number (1 byte, unless suppressed), destination PAN (2), destination, source, then the elements
 unfoldable pub offsetsOf : Control → FieldOffsets
@@ -53,7 +73,7 @@ offsetsOf control =
     let source : ℕ = destination + addressLength (control .destination) in
     record { pan = pan; destination = destination; source = source; elements = source + addressLength (control .source) }
 
--- the checks before the elements: over 125 bytes (1); under 2 bytes (2); frame control; fields cut (2); destination FF FF (5)
+-- the checks before the elements: over 125 bytes (1); under 2 bytes (2); frame control; fields cut (2); the destination (5)
 unfoldable pub macHeaderFault : List ℕ → ℕ
 macHeaderFault s =
     let control = controlOf (leAt 2 s 0) in
@@ -62,7 +82,7 @@ macHeaderFault s =
     (ifLt (length s) 2 cut
     (ifEq (formFault control) done
     (ifLt (length s) (offsets .elements) cut
-    (ifEq (leAt 2 s (offsets .destination)) 65535
+    (ifEq (leAt 2 s (offsets .destination)) broadcast
     done
     addressing))
     (formFault control)))

@@ -1,4 +1,4 @@
-// The line that a reading is printed as, put into lent buffer. Each of its numbers has at most the 20 digits of a u64, so that 128
+// The line that a reading is printed as, put into a lent buffer. Each of its numbers has at most the 20 digits of a u64, so that 128
 // bytes hold every line.
 ghost use mathlib.Core.Path.{_≡_};
 ghost use Prim.Native.Nat.{_+_, _<_, _≤_};
@@ -30,21 +30,21 @@ fn put_newline(buffer: &mut [u8], at: usize) -> usize
     at + 1
 }
 
-fn put_decimal(buffer: &mut [u8], at: usize, n: u64) -> usize
+fn put_decimal(buffer: &mut [u8], at: usize, value: u64) -> usize
     requires { ⌜ at + 20 ≤ length (now buffer) ⌝ }
-    ensures { λ r. ⌜ PartPut (now (buffer .entry)) at (decimal n) (now (buffer .exit)) r × (r ≤ at + 20) ⌝ }
+    ensures { λ r. ⌜ PartPut (now (buffer .entry)) at (decimal value) (now (buffer .exit)) r × (r ≤ at + 20) ⌝ }
 {
     let mut digits = [0u8; 20];
-    let k = io::decimal(n, &mut digits);
-    put_text(buffer, at, &digits[..k])
+    let count = io::decimal(value, &mut digits);
+    put_text(buffer, at, &digits[..count])
 }
 
-fn put_field(buffer: &mut [u8], at: usize, name: &[u8], n: u64) -> usize
+fn put_field(buffer: &mut [u8], at: usize, name: &[u8], value: u64) -> usize
     requires { ⌜ at + length (now name) + 20 ≤ length (now buffer) ⌝ }
-    ensures { λ r. ⌜ PartPut (now (buffer .entry)) at (field (now (name .entry)) n) (now (buffer .exit)) r × (r ≤ at + length (now (name .entry)) + 20) ⌝ }
+    ensures { λ r. ⌜ PartPut (now (buffer .entry)) at (field (now (name .entry)) value) (now (buffer .exit)) r × (r ≤ at + length (now (name .entry)) + 20) ⌝ }
 {
     let next = put_text(buffer, at, name);
-    put_decimal(buffer, next, n)
+    put_decimal(buffer, next, value)
 }
 
 fn put_synchronization(buffer: &mut [u8], asn: u64, metric: u8) -> usize
@@ -64,12 +64,16 @@ fn put_slotframe(buffer: &mut [u8], at: usize, size: u16, links: u8) -> usize
     put_newline(buffer, last)
 }
 
-fn put_accepted(buffer: &mut [u8], b: Beacon) -> usize
+fn put_accepted(buffer: &mut [u8], beacon: Beacon) -> usize
     requires { ⌜ 128 ≤ length (now buffer) ⌝ }
-    ensures { λ r. ⌜ PartPut (now (buffer .entry)) 0 (acceptedText b) (now (buffer .exit)) r × (r ≤ 128) ⌝ }
+    ensures { λ r. ⌜ PartPut (now (buffer .entry)) 0 (acceptedText beacon) (now (buffer .exit)) r × (r ≤ 128) ⌝ }
 {
-    let next = put_synchronization(buffer, b.synchronization.asn, b.synchronization.metric);
-    put_slotframe(buffer, next, b.slotframe.size, b.slotframe.count)
+    let next = put_synchronization(
+        buffer,
+        beacon.synchronization.asn,
+        beacon.synchronization.metric,
+    );
+    put_slotframe(buffer, next, beacon.slotframe.size, beacon.slotframe.count)
 }
 
 fn put_refused(buffer: &mut [u8], number: u8) -> usize

@@ -57,7 +57,7 @@ slotframeText size links = field sizeName size ++ (field linksName links ++ newl
 
 -- what an accepted frame says: `asn 256 metric 2 size 11 links 1`
 unfoldable pub acceptedText : Beacon → List ℕ
-acceptedText b = synchronizationText (b .synchronization .asn) (b .synchronization .metric) ++ slotframeText (b .slotframe .size) (b .slotframe .count)
+acceptedText beacon = synchronizationText (beacon .synchronization .asn) (beacon .synchronization .metric) ++ slotframeText (beacon .slotframe .size) (beacon .slotframe .count)
 
 -- the number of a refusal: `refused 2`
 unfoldable pub refusedText : ℕ → List ℕ
@@ -65,7 +65,7 @@ refusedText number = field refusedName number ++ newline
 
 -- the line of a reading, with its newline
 unfoldable pub lineOf : ReadAnswer → List ℕ
-lineOf a = ifEq (a .number) done (acceptedText (a .beacon)) (refusedText (a .number))
+lineOf answer = ifEq (answer .number) done (acceptedText (answer .beacon)) (refusedText (answer .number))
 
 -- a part of the line was put into a buffer from an offset on: the buffer then, and the offset behind the part
 pub record PartPut (buffer : List ℕ) (at : ℕ) (part : List ℕ) (after : List ℕ) (next : ℕ) : Type 0 where

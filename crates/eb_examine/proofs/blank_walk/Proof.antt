@@ -4,12 +4,12 @@ use borrow.Author.Needs.{needs}
 use Rattle.eb_examine.proofs.blank_walk.Statement.{statement}
 use Rattle.eb_examine.proofs.blank_walk.Tie as tie
 
-headed-walk-requires : tie.Need-headed-walk-requires
-headed-walk-requires c κs = search needs
+walk-start-requires : tie.Need-walk-start-requires
+walk-start-requires c κs = search needs
 
 returns : tie.Need-returns
 unfolding blankWalk
-returns c = c .headed-walk .ensures
+returns c = c .walk-start .ensures
 
 pub blank-walk-spec : {M : Type 1} → statement M
-blank-walk-spec = tie.close (tie.spec headed-walk-requires returns)
+blank-walk-spec = tie.close (tie.spec walk-start-requires returns)

@@ -7,8 +7,8 @@ use Rattle.eb_examine.proofs.elements_walk.Tie as tie
 header-list-requires : tie.Need-header-list-requires
 header-list-requires c κs = search needs
 
-headed-walk-requires : tie.Need-headed-walk-requires
-headed-walk-requires c κs = search needs
+walk-start-requires : tie.Need-walk-start-requires
+walk-start-requires c κs = search needs
 
 returns : tie.Need-returns
 returns c = search (needs, reading)
@@ -27,7 +27,7 @@ elements-walk-spec =
     tie.close
     (tie.spec
     header-list-requires
-    headed-walk-requires
+    walk-start-requires
     returns
     returns-2
     payload-list-requires

@@ -1,4 +1,4 @@
--- `ie_walk::payload_list::group` and `ie_walk_spec::outer`, which call each other, meet their contracts. The bytes that remain fall: the measures count them
+-- `ie_walk::payload_list::group` and `ie_walk::payload_list::outer`, which call each other, meet their contracts. The bytes that remain fall: the measures count them
 -- twice, with one more for a group, since going back to the list at a group's end takes no byte. Assumes nothing.
 use borrow.Author.Needs.{needs}
 use Rattle.ie_walk_spec.proofs.ListLaws.{OuterLeads, GroupLeads, lists}
