@@ -1,13 +1,18 @@
 /*
- * C interface of Tesolvagna, a proved library for 6TiSCH Enhanced Beacons. Link with libtesolvagna.a (64-bit targets).
+ * Tesolvagna: reads and writes Enhanced Beacons, decides what a node does in a slot, and keeps the table of neighbours
+ * from which it chooses its parent (6TiSCH minimal configuration, RFC 8180, over IEEE 802.15.4-2015).
  *
- * Every function answers on every input. What a caller owes is only that memory is what it is said to be: a pointer is not
- * null, it is aligned, and what it points to is valid for the length that follows it, also when that length is 0; memory
- * that a function writes does not overlap anything else that is lent to the same call.
+ * Link with libtesolvagna.a: x86-64 only, with the System V calling convention.
  *
- * Memory is lent as a pointer and a length, in entries. Where a layout has a length of its own (a table, the arrays of a
- * record), lending another length is refused with TESOLVAGNA_OUTSIDE_LIMITS before anything else is looked at, and nothing is
- * written.
+ * Every function answers on every input. Records, tables and answers are structs that go by value: the library
+ * allocates nothing and keeps nothing. Only these are lent to it: received bytes, a list of links and a log, which it
+ * reads, and a buffer for a frame, which it writes when the frame is done and never on a refusal.
+ *
+ * What a caller owes is what C itself asks for: a pointer is aligned and valid for as many entries as the length
+ * behind it says, and a bool is 0 or 1. With the length 0 a pointer may be NULL.
+ *
+ * The first field of an answer that can be a refusal is its number: TESOLVAGNA_DONE, or which rule the input broke. The
+ * padding of a struct holds nothing: compare fields, not memory.
  */
 #ifndef TESOLVAGNA_H
 #define TESOLVAGNA_H
@@ -16,342 +21,245 @@
 #include <stddef.h>
 #include <stdint.h>
 
+/* The version of this interface, also as one number: 0x020000 is 2.0.0. */
+#define TESOLVAGNA_VERSION_MAJOR 2
+#define TESOLVAGNA_VERSION_MINOR 0
+#define TESOLVAGNA_VERSION_PATCH 0
+#define TESOLVAGNA_VERSION \
+    ((TESOLVAGNA_VERSION_MAJOR << 16) | (TESOLVAGNA_VERSION_MINOR << 8) | TESOLVAGNA_VERSION_PATCH)
+
 #ifdef __cplusplus
 extern "C" {
 #endif
 
-/* The numbers that a call can return. */
+/* The numbers that a call can give. */
 enum tesolvagna_number {
-    /* Done. */
+    /* Done: nothing was refused. */
     TESOLVAGNA_DONE = 0,
     /* The frame is longer than 125 bytes, or would be when written. */
-    TESOLVAGNA_TOO_LONG = 1,
-    /* A field, an element or an element's two descriptor bytes run past what encloses them. */
+    TESOLVAGNA_FRAME_TOO_LONG = 1,
+    /* A field, an information element or its two descriptor bytes run past what encloses them. */
     TESOLVAGNA_CUT = 2,
-    /* The frame type is not 0 or the frame version is not 2. */
-    TESOLVAGNA_NOT_A_BEACON = 3,
+    /* The frame is no beacon: its type is not 0 or its version is not 2. */
+    TESOLVAGNA_WRONG_TYPE = 3,
     /* The security bit is set. */
     TESOLVAGNA_SECURED = 4,
-    /* The addressing form is not the accepted one. */
+    /* The addressing form, the destination or the presence of information elements is not the accepted one. */
     TESOLVAGNA_ADDRESSING = 5,
-    /* An element has the wrong shape. */
+    /* An information element has the wrong shape. */
     TESOLVAGNA_SHAPE = 6,
-    /* A required element is missing, or a known one comes twice. */
+    /* A required information element is missing, or a known one is there twice. */
     TESOLVAGNA_MISSING_OR_TWICE = 7,
     /* A number is outside its limits. */
-    TESOLVAGNA_OUTSIDE_LIMITS = 8,
-    /* The lent room is shorter than the frame to be written. */
-    TESOLVAGNA_NO_ROOM = 9,
+    TESOLVAGNA_OUT_OF_LIMITS = 8,
+    /* The buffer is shorter than the frame to be written. */
+    TESOLVAGNA_BUFFER_TOO_SHORT = 9,
     /* The neighbour is not in the table. */
     TESOLVAGNA_UNKNOWN_NEIGHBOUR = 10,
-    /* The neighbour is new and all 32 places are in use. */
+    /* The neighbour is new, and all 32 places of the table are in use. */
     TESOLVAGNA_TABLE_FULL = 11
 };
 
-/* What a node does in a slot. */
-enum tesolvagna_action {
-    TESOLVAGNA_SLEEP = 0,
-    TESOLVAGNA_TRANSMIT = 1,
-    TESOLVAGNA_LISTEN = 2
-};
-
-/* A link's option bits; the decision looks at the first two only. */
-enum tesolvagna_option {
-    TESOLVAGNA_OPTION_TRANSMIT = 1,
-    TESOLVAGNA_OPTION_RECEIVE = 2,
-    TESOLVAGNA_OPTION_SHARED = 4,
-    TESOLVAGNA_OPTION_TIMEKEEPING = 8
-};
-
-/* A link of the schedule; `offset` is its channel offset. */
-struct tesolvagna_link {
-    uint16_t timeslot;
-    uint16_t offset;
-    uint8_t options;
-};
-
-/* A slot decision: `number` is 0 or the refusal number, `place` the link's place in the list, counted from 0. */
-struct tesolvagna_slot {
-    uint8_t number;
-    uint8_t action;
-    uint8_t channel;
-    size_t place;
-};
-
-/*
- * Decides what to do in slot `asn`.
- *
- * links, count   the links of the schedule, in their order; not written
- * size           how many slots the slotframe has
- * id             the hopping sequence ID
- * asn            the absolute slot number
- * waits          whether a frame waits to be sent
- *
- * A link is active when its timeslot is `asn` mod `size`. If a frame waits and an active link has the transmit option:
- * transmit on the first such link. Else, if an active link has the receive option: listen on the first such link. Else
- * sleep. The channel is that of `tesolvagna_channel` for the link.
- *
- * number 0   done
- * number 8   `size` is 0, `count` is not 1 to 16, a link's timeslot is not below `size`, `id` is not 0 or `asn` is over 2^40 - 1
- *
- * Action, channel and place are 0 when asleep and when refused. Nothing is written.
- */
-struct tesolvagna_slot tesolvagna_decide(const struct tesolvagna_link *links, size_t count, uint16_t size, uint8_t id,
-                                         uint64_t asn, bool waits);
-
-/*
- * The channel, 11 to 26, of slot `asn` at a channel offset: entry (asn + offset) mod 16, counted from 0, of the
- * default hopping sequence 16, 17, 23, 18, 26, 15, 25, 22, 19, 11, 12, 13, 24, 14, 20, 21. Nothing is refused: every
- * `asn` has a channel, also one over 2^40 - 1.
- */
-uint8_t tesolvagna_channel(uint64_t asn, uint16_t offset);
-
-/*
- * The neighbour table. A table is 162 numbers that the caller lends:
- *
- *   table[5*i + 0]   place i, 0 to 31: 1 in use, 0 free
- *   table[5*i + 1]   its neighbour's identifier (0 is one too)
- *   table[5*i + 2]   advertised rank, at most 65535
- *   table[5*i + 3]   attempts, at most 255
- *   table[5*i + 4]   acknowledged, at most the attempts
- *   table[160]       1 a parent is held, 0 none
- *   table[161]       the held parent's identifier, 0 where none is held
- *
- * A free place is all zero; 162 zeros are the empty table. Refused with 8 by every call, as no table: another length than
- * 162; a mark over 1, a rank or a counter over 65535, an identifier where no parent is held; attempts over 255, more
- * acknowledged than attempts, a free place that is not all zero, an identifier twice among places in use, a held parent not
- * among them. A refusal, for whatever reason, changes none of the numbers.
- */
-
-/* Places of a table's numbers: a neighbour's count from TESOLVAGNA_NEIGHBOUR_STRIDE * i, the parent's from the start. */
-enum tesolvagna_table {
-    TESOLVAGNA_NEIGHBOUR_IN_USE = 0,
-    TESOLVAGNA_NEIGHBOUR_ID = 1,
-    TESOLVAGNA_NEIGHBOUR_RANK = 2,
-    TESOLVAGNA_NEIGHBOUR_ATTEMPTS = 3,
-    TESOLVAGNA_NEIGHBOUR_ACKNOWLEDGED = 4,
-    TESOLVAGNA_PARENT_PRESENT = 160,
-    TESOLVAGNA_PARENT_ID = 161
-};
-
-/* How many numbers a table has, how many neighbours it has places for, and how many numbers each place has. */
-enum tesolvagna_table_length {
-    TESOLVAGNA_TABLE_NUMBERS = 162,
+/* Lengths and limits. */
+enum tesolvagna_limit {
+    /* The most bytes of a frame, without MIC and FCS. */
+    TESOLVAGNA_LONGEST_FRAME = 125,
+    /* The most links of a slotframe. */
+    TESOLVAGNA_MOST_LINKS = 16,
+    /* The timings of a timeslot template. */
+    TESOLVAGNA_TIMINGS = 12,
+    /* The most bytes of a network ID. */
+    TESOLVAGNA_NETWORK_ID_BYTES = 16,
+    /* The places of a neighbour table. */
     TESOLVAGNA_NEIGHBOURS = 32,
-    TESOLVAGNA_NEIGHBOUR_STRIDE = 5
-};
-
-/* Limits of ranks: the own rank without a parent. */
-enum tesolvagna_rank {
-    TESOLVAGNA_NO_RANK = 65535
-};
-
-/* Own rank after an evaluation: 65535 where there is no parent, and where it is refused. */
-struct tesolvagna_evaluated {
-    uint16_t number;
-    uint16_t rank;
-};
-
-/* The join metric of a rank, 0 where it is refused. */
-struct tesolvagna_metric {
-    uint8_t number;
-    uint8_t metric;
-};
-
-/* What a log of calls comes to. Where applies is 1, 641 * changes + last <= first + rises, and changes <= 101 if rises
- * is 0. A held parent's cost is 0 where none is held, and its rank alone where nothing was acknowledged; first and last
- * are 0 without an evaluation. All are 0 but the number where the log is refused. */
-struct tesolvagna_counts {
-    uint64_t number;
-    uint64_t evaluations;
-    uint64_t changes;
-    uint64_t rises;
-    uint64_t first;
-    uint64_t last;
-    uint64_t applies;
-};
-
-/* Kinds of calls in a log. */
-enum tesolvagna_call {
-    TESOLVAGNA_CALL_ADVERTISE = 0,
-    TESOLVAGNA_CALL_REPORT = 1,
-    TESOLVAGNA_CALL_FORGET = 2,
-    TESOLVAGNA_CALL_EVALUATE = 3,
-    /* The most calls that a log may have. */
+    /* The rank of a node without a parent. */
+    TESOLVAGNA_NO_RANK = 65535,
+    /* The most calls of a log. */
     TESOLVAGNA_MOST_CALLS = 65535
 };
 
 /*
- * Makes the lent numbers the empty table; what they were does not matter.
- *
- * returns 0   done: the table is 162 zeros
- * returns 8   `table_length` is not 162; nothing is written
+ * Beacons
  */
-uint8_t tesolvagna_empty(uint64_t *table, size_t table_length);
 
-/*
- * The increment of a neighbour with so many attempts, of which so many were acknowledged: the smallest whole number not
- * below 256 * (3 * attempts - 2 * acked) / acked, and 0 where `acked` is 0 or 2 * acked is over 3 * attempts. Nothing is
- * refused, nothing is written.
- */
-uint32_t tesolvagna_increment(uint16_t attempts, uint16_t acked);
+/* The bits of a link's options. The slot decision looks at the first two only. */
+enum tesolvagna_option {
+    /* The node may transmit. */
+    TESOLVAGNA_OPTION_TRANSMIT = 1,
+    /* The node listens. */
+    TESOLVAGNA_OPTION_RECEIVE = 2,
+    /* Several nodes may transmit. */
+    TESOLVAGNA_OPTION_SHARED = 4,
+    /* The node keeps its time by the neighbour. */
+    TESOLVAGNA_OPTION_TIMEKEEPING = 8
+};
 
-/*
- * The join metric that a node of this rank sends: rank / 256 - 1, rounded down.
- *
- * number 0   done, for ranks 256 to 65534
- * number 8   any other rank, with the metric 0: such a node sends no beacon
- *
- * Nothing is written.
- */
-struct tesolvagna_metric tesolvagna_join_metric(uint16_t rank);
+/* The timings of a timeslot template by their places in `timings`, each in microseconds, with the standard's names. */
+enum tesolvagna_timing {
+    /* macTsCcaOffset */
+    TESOLVAGNA_TIMING_CCA_OFFSET = 0,
+    /* macTsCca */
+    TESOLVAGNA_TIMING_CCA = 1,
+    /* macTsTxOffset */
+    TESOLVAGNA_TIMING_TX_OFFSET = 2,
+    /* macTsRxOffset */
+    TESOLVAGNA_TIMING_RX_OFFSET = 3,
+    /* macTsRxAckDelay */
+    TESOLVAGNA_TIMING_RX_ACK_DELAY = 4,
+    /* macTsTxAckDelay */
+    TESOLVAGNA_TIMING_TX_ACK_DELAY = 5,
+    /* macTsRxWait */
+    TESOLVAGNA_TIMING_RX_WAIT = 6,
+    /* macTsAckWait */
+    TESOLVAGNA_TIMING_ACK_WAIT = 7,
+    /* macTsRxTx */
+    TESOLVAGNA_TIMING_RX_TX = 8,
+    /* macTsMaxAck */
+    TESOLVAGNA_TIMING_MAX_ACK = 9,
+    /* macTsMaxTx */
+    TESOLVAGNA_TIMING_MAX_TX = 10,
+    /* macTsTimeslotLength */
+    TESOLVAGNA_TIMING_TIMESLOT_LENGTH = 11
+};
 
-/*
- * Sets the rank of neighbour `id`, or adds it with no attempts in the lowest-numbered free place.
- *
- * returns 0    done: the table holds the rank
- * returns 8    no table
- * returns 11   the neighbour is new and all 32 places are in use
- *
- * On a refusal the table is as it was.
- */
-uint8_t tesolvagna_advertise(uint64_t *table, size_t table_length, uint64_t id, uint16_t rank);
+/* A link of a slotframe. */
+struct tesolvagna_link {
+    /* The slot of the slotframe, counted from 0; below the slotframe's size. */
+    uint16_t timeslot;
+    /* The channel offset, any number. */
+    uint16_t channel_offset;
+    /* enum tesolvagna_option. On air this is one byte, all of which is kept: writing refuses a number over 255. */
+    uint16_t options;
+};
 
-/*
- * Counts 1 to 4 attempts to send to neighbour `id`, and whether they ended with an acknowledgement. Where the attempts would
- * pass 255, attempts and acknowledged are halved first, rounding down.
- *
- * returns 0    done: the table holds the counters
- * returns 8    no table, or `attempts` is not 1 to 4
- * returns 10   the neighbour is not in the table
- *
- * On a refusal the table is as it was.
- */
-uint8_t tesolvagna_report(uint64_t *table, size_t table_length, uint64_t id, uint16_t attempts, bool acked);
+/* The TSCH synchronization information element. */
+struct tesolvagna_synchronization {
+    /* The absolute slot number (ASN), at most 2^40 - 1. */
+    uint64_t asn;
+    /* The join metric. */
+    uint8_t join_metric;
+};
 
-/*
- * Frees the place of neighbour `id`; held as a parent, it is so no longer.
- *
- * returns 0    done: the place is free and all zero
- * returns 8    no table
- * returns 10   the neighbour is not in the table
- *
- * On a refusal the table is as it was.
- */
-uint8_t tesolvagna_forget(uint64_t *table, size_t table_length, uint64_t id);
+/* The TSCH timeslot information element. */
+struct tesolvagna_timeslot {
+    /* The ID of the timeslot template; 0 if it comes without timings. */
+    uint8_t template_id;
+    /* Whether the timings come with the ID. */
+    bool has_timings;
+    /* enum tesolvagna_timing. The first ten are at most 65535, the last two at most 2^24 - 1; all 0 without timings. */
+    uint32_t timings[TESOLVAGNA_TIMINGS];
+};
 
-/*
- * Chooses the parent and gives the own rank, which is the parent's cost: its rank and `tesolvagna_increment` of its
- * counters. A neighbour is eligible with a rank of at least 256, at least 1 acknowledged, 3 * attempts at most 11 *
- * acknowledged and a cost of at most 65534; the best has the least cost, then the lower identifier. The held parent is
- * changed for the best if none is held, if it is not eligible, or if its cost is more than 640 over the best one's. With no
- * eligible neighbour no parent is held and the own rank is 65535, which is no refusal.
- *
- * number 0   done: the table holds the parent, and nothing else of it is changed
- * number 8   no table, with the own rank 65535; the table is as it was
- */
-struct tesolvagna_evaluated tesolvagna_evaluate(uint64_t *table, size_t table_length);
+/* The TSCH slotframe and link information element, of one slotframe. */
+struct tesolvagna_slotframe {
+    /* The slotframe's handle. */
+    uint8_t handle;
+    /* How many slots the slotframe has, at least 1. */
+    uint16_t size;
+    /* How many links it has, 1 to 16. */
+    uint8_t link_count;
+    /* The links, all 0 from link_count on. */
+    struct tesolvagna_link links[TESOLVAGNA_MOST_LINKS];
+};
 
-/*
- * Runs a log of calls, one row for each: `kinds` says which call it is (enum tesolvagna_call), `ids` the neighbour, `values`
- * the rank of an advertisement or the attempts of a report, `flags` 1 if a report ended with an acknowledgement. What a kind
- * does not take is not looked at. Calls that are refused stay in the log and change nothing.
- *
- * number 0   done: the table is what the last call gave back
- * number 8   no table; lists that are not equally long; over 65535 rows; a kind over 3 or a flag over 1. All counts are 0 and
- *            the table is as it was
- *
- * The four lists are not written.
- */
-struct tesolvagna_counts tesolvagna_replay(uint64_t *table, size_t table_length, const uint8_t *kinds, size_t kinds_length,
-                                           const uint64_t *ids, size_t ids_length, const uint16_t *values,
-                                           size_t values_length, const uint8_t *flags, size_t flags_length);
-
-/* Places of a record's numbers. A number that the beacon does not say is 0. */
-enum tesolvagna_record {
-    /* 1 if there is a sequence number. */
-    TESOLVAGNA_SEQUENCE_PRESENT = 0,
-    TESOLVAGNA_SEQUENCE = 1,
-    TESOLVAGNA_PAN_ID = 2,
-    /* 0 if the source address is short, 1 if it is extended. */
-    TESOLVAGNA_SOURCE_KIND = 3,
-    TESOLVAGNA_SOURCE = 4,
-    TESOLVAGNA_ASN = 5,
-    TESOLVAGNA_JOIN_METRIC = 6,
-    TESOLVAGNA_TEMPLATE_ID = 7,
-    /* 1 if the template ID comes with timings. */
-    TESOLVAGNA_TIMINGS_PRESENT = 8,
-    TESOLVAGNA_HOPPING_ID = 9,
-    TESOLVAGNA_SLOTFRAME_HANDLE = 10,
-    TESOLVAGNA_SLOTFRAME_SIZE = 11,
-    TESOLVAGNA_LINK_COUNT = 12,
-    /* 1 if there is joining information; what follows is part of it. */
-    TESOLVAGNA_JOINING_PRESENT = 13,
+/* Joining information (RFC 9032), which a beacon may leave out: then all of it is 0. */
+struct tesolvagna_joining {
+    /* Whether the beacon has it. */
+    bool present;
     /* The R flag. */
-    TESOLVAGNA_ROUTER = 14,
-    /* The P flag: 1 if there is a join proxy's address. */
-    TESOLVAGNA_PROXY_PRESENT = 15,
-    TESOLVAGNA_PROXY_PRIORITY = 16,
-    TESOLVAGNA_RANK_PRIORITY = 17,
-    TESOLVAGNA_PAN_PRIORITY = 18,
-    /* As a number, most significant byte first. */
-    TESOLVAGNA_PROXY_ADDRESS = 19,
-    TESOLVAGNA_NETWORK_ID_LENGTH = 20
+    bool router;
+    /* The P flag: whether there is the address of a join proxy. */
+    bool proxied;
+    /* The proxy priority, at most 127. */
+    uint8_t proxy_priority;
+    /* The rank priority, at most 4095. */
+    uint16_t rank_priority;
+    /* The PAN priority. */
+    uint8_t pan_priority;
+    /* The join proxy's address as a number, most significant byte first on air; 0 without the P flag. */
+    uint64_t proxy_address;
+    /* How many bytes the network ID has, at most 16. */
+    uint8_t network_id_length;
+    /* The network ID, all 0 from network_id_length on. */
+    uint8_t network_id[TESOLVAGNA_NETWORK_ID_BYTES];
 };
 
-/* The lengths of the arrays that hold a record: numbers, timings, three numbers for each link, network ID. */
-enum tesolvagna_record_length {
-    TESOLVAGNA_NUMBERS = 21,
-    TESOLVAGNA_TIMINGS = 12,
-    TESOLVAGNA_LINK_NUMBERS = 48,
-    TESOLVAGNA_NETWORK_ID_BYTES = 16
+/* What an Enhanced Beacon says, in the order on air. In the blank record everything is 0. */
+struct tesolvagna_beacon {
+    /* Whether there is a sequence number; 0 is one too. */
+    bool has_sequence_number;
+    /* The sequence number, 0 without one. */
+    uint8_t sequence_number;
+    /* The PAN ID. */
+    uint16_t pan_id;
+    /* Whether the source is an extended address (64 bits) and not a short one (16 bits). */
+    bool source_is_extended;
+    /* The source address as a number; a short one is at most 65535. */
+    uint64_t source;
+    /* ASN and join metric. */
+    struct tesolvagna_synchronization synchronization;
+    /* The timeslot template. */
+    struct tesolvagna_timeslot timeslot;
+    /* The hopping sequence ID, from the channel hopping information element. */
+    uint8_t hopping_sequence_id;
+    /* The slotframe and its links. */
+    struct tesolvagna_slotframe slotframe;
+    /* Joining information, if the beacon has it. */
+    struct tesolvagna_joining joining;
 };
 
-/* Places of a link's three numbers, counted from TESOLVAGNA_LINK_STRIDE * i for link i. */
-enum tesolvagna_link_numbers {
-    TESOLVAGNA_LINK_TIMESLOT = 0,
-    TESOLVAGNA_LINK_OFFSET = 1,
-    TESOLVAGNA_LINK_OPTIONS = 2,
-    TESOLVAGNA_LINK_STRIDE = 3
+/* What reading a frame gives. */
+struct tesolvagna_reading {
+    /* enum tesolvagna_number */
+    uint8_t number;
+    /* The frame's record; the blank record on a refusal. */
+    struct tesolvagna_beacon beacon;
 };
 
-/* The most bytes that a frame may have, and the most links. */
-enum tesolvagna_most {
-    TESOLVAGNA_LONGEST_FRAME = 125,
-    TESOLVAGNA_MOST_LINKS = 16
+/* What writing a record gives. */
+struct tesolvagna_written {
+    /* enum tesolvagna_number */
+    uint8_t number;
+    /* How many bytes the frame has, 0 on a refusal. */
+    size_t length;
+};
+
+/* A part of a frame. */
+struct tesolvagna_span {
+    /* Where it starts, counted from the frame's first byte. */
+    size_t offset;
+    /* How many bytes it has. */
+    size_t length;
 };
 
 /*
- * Reads an Enhanced Beacon as the radio hands it over, without MIC and FCS, and lays its record out in lent arrays.
+ * Reads an Enhanced Beacon as the radio hands it over, without MIC and FCS.
  *
- * frame, frame_length       the received bytes; not written
- * numbers, numbers_length   21 numbers, as named above
- * timings, timings_length   12 timings, 0 without
- * links, links_length       48 numbers: timeslot, channel offset and options of each of 16 links, 0 from the link count on
- * network, network_length   the 16 bytes of the network ID, 0 from its length on
+ * frame, length   the received bytes; never written
  *
- * returns 0        done: the arrays hold the record
- * returns 1 to 8   the first check that the frame fails: the arrays hold the blank record, in which everything is 0
- * returns 8        also if an array has another length than the four above, whatever the frame is: the arrays are as they were
+ * number 0        done: `beacon` is the frame's record
+ * number 1 to 8   the first check that the frame fails: `beacon` is the blank record
  *
  * The checks are made in this order. Numbers are least significant byte first, except inside joining information.
  *   1  The frame has more than 125 bytes.
  *   2  It has fewer than 2 bytes.
  *   3  In the frame control field the type is not 0 or the version is not 2.
  *   4  The security bit is set.
- *   5  The destination mode is not short, the source mode neither short nor extended, PAN ID compression or elements
- *      present is 0. The pending, acknowledge request and reserved bits are ignored.
- *   2  The sequence number (unless suppressed), PAN ID, destination or source is cut.
+ *   5  The destination mode is not short, the source mode neither short nor extended, PAN ID compression is 0, or
+ *      information elements present is 0. The pending, acknowledge request and reserved bits are ignored.
+ *   2  The rest of the MAC header's fields is cut: sequence number (unless suppressed), PAN ID, destination, source.
  *   5  The destination is not 0xFFFF.
- * Then the elements, in the order of their bytes. An element, or its two descriptor bytes, that runs past what encloses
- * it is 2 before anything else is said of it; the frame encloses header elements and groups, a group its sub-elements.
+ * Then the information elements, in the order of their bytes. An element, or its two descriptor bytes, that runs past
+ * what encloses it is 2 before anything else is said of it. The frame encloses header elements and groups, a group its
+ * sub-elements.
  *   Header elements (bits 0 to 6 length, 7 to 14 ID): a set bit 15 is 6. ID 0x7E ends the list, and payload elements
  *   follow; ID 0x7F or the end of the frame ends it, and none follow; either ID with a length is 6. Others are skipped.
  *   Payload elements (bits 0 to 10 length, 11 to 14 group): a clear bit 15 is 6. Group 15 ends the list, with a length
- *   it is 6, and so does the end of the frame. Group 1 holds sub-elements. Group 5 starts with a subtype, without which
- *   it is 6; subtype 2 is joining information. Other groups and subtypes are skipped.
- *   Sub-elements, short (bit 15 clear: bits 0 to 7 length, 8 to 14 ID) or long (bit 15 set: bits 0 to 10 length, 11 to
- *   14 ID). Four are known, others are skipped. Of each the checks are made in the order in which they stand here:
+ *   it is 6; the end of the frame ends it too. Group 1, the MLME group, holds sub-elements. Group 5, the IETF group,
+ *   starts with a subtype, without which it is 6; subtype 2 is joining information. Other groups and subtypes are
+ *   skipped.
+ *   Sub-elements are short (bit 15 clear: bits 0 to 7 length, 8 to 14 ID) or long (bit 15 set: bits 0 to 10 length, 11
+ *   to 14 ID). Four are known, others are skipped. Of each the checks are made in the order in which they stand here:
  *     short 0x1A, synchronization: not 6 bytes is 6, a second one 7. ASN (5 bytes), join metric.
  *     short 0x1C, timeslot: not 1, 25 or 27 bytes is 6, a second one 7, 1 byte that is not 0 is 8. Template ID, then
  *       no timings or twelve of 2 bytes each, of which the last two have 3 in the form of 27 bytes.
@@ -364,91 +272,335 @@ enum tesolvagna_most {
  *     length is 6, a second one 7.
  *   7  One of the four sub-elements is missing.
  */
-uint8_t tesolvagna_read(const uint8_t *frame, size_t frame_length, uint64_t *numbers, size_t numbers_length,
-                        uint32_t *timings, size_t timings_length, uint16_t *links, size_t links_length,
-                        uint8_t *network, size_t network_length);
+struct tesolvagna_reading tesolvagna_beacon_read(const uint8_t *frame, size_t length);
 
 /*
- * The network ID as part of a frame: gives its length, and in `start` where it starts, counted from the frame's first byte.
- * Both are 0 if `tesolvagna_read` refuses the frame, for whatever reason, if the frame has no joining information, and if its
- * network ID has 0 bytes. The frame is not written; `start` always is.
- */
-size_t tesolvagna_network_id(const uint8_t *frame, size_t frame_length, size_t *start);
-
-/*
- * Writes a record's Enhanced Beacon at the start of a lent room.
+ * Writes a record's Enhanced Beacon at the start of a buffer.
  *
- * room, room_length             where the frame goes
- * numbers, timings, links, network, each with its length
- *                               the record, laid out as `tesolvagna_read` does it; not written
- * length                        how many bytes the frame has, 0 on a refusal; always written
+ * buffer, buffer_length   where the frame goes
+ * beacon                  the record
  *
- * returns 0   done: the frame is the first `*length` bytes of the room, whose later bytes are as they were
- * returns 8   a number is outside its limits, or an array has another length than `tesolvagna_read` takes
- * returns 1   the frame would have more than 125 bytes
- * returns 9   the room is shorter than the frame; one of just its length is enough
+ * number 0   done: the frame is the first `length` bytes of the buffer, whose later bytes are as they were
+ * number 8   a field of the record is outside its limits
+ * number 1   the frame would have more than 125 bytes
+ * number 9   the buffer is shorter than the frame; one of just its length is enough
  *
- * The first of these that applies is given. On a refusal the room is as it was.
+ * The first of these that applies is given. On a refusal `length` is 0 and the buffer is as it was.
  *
  * Outside the limits are:
- *   A number that does not fit its field: one over 1 that says what is present, the source's kind or the R flag; over
- *     65535 the PAN ID, a short source, the slotframe size or the rank priority; over 255 a link's options, and any
- *     other of `numbers` but an extended source, the ASN and the address.
- *   An ASN over 2^40 - 1.
+ *   A short source over 65535, an ASN over 2^40 - 1, a link's options over 255.
  *   A template ID that comes without timings and is not 0; one of the first ten timings over 65535; one of the last two
  *     over 2^24 - 1.
  *   Slotframe size 0, no link, more than 16 links, a timeslot that is not below the size.
  *   A proxy priority over 127, a rank priority over 4095, a network ID of more than 16 bytes.
- *   Anything but 0 where nothing is used: a sequence number that is not present, timings that are not present, links
- *     from the link count on, the address without the P flag, network ID bytes from its length on, all of joining
- *     information that is not present.
- * The record of a frame that was read is within the limits, and takes no more bytes than that frame had. The blank
- * record is outside, with size 0 and no link.
+ *   Anything but 0 where nothing is used: a sequence number that is not there, timings that are not there, links from
+ *     link_count on, the proxy's address without the P flag, bytes of the network ID from network_id_length on, all of
+ *     joining information that is not present.
+ * A record that was read is within the limits, and takes no more bytes than its frame had. The blank record is outside:
+ * it has size 0 and no link.
  *
- * The frame: frame control with type 0, version 2, PAN ID compression and elements present, and no other flag than that
- * of a suppressed sequence number; sequence number if present; PAN ID; destination 0xFFFF; source; header ID 0x7E; one
- * group 1 of synchronization, timeslot, channel hopping, and slotframe and link; joining information, if present, as
- * group 5 with subtype 2; no group 15. Timings take the form of 25 bytes if both of the last two fit in 2 bytes, else
- * that of 27. `tesolvagna_read` answers 0 on it and lays the same record out.
+ * The frame: frame control with type 0, version 2, PAN ID compression and information elements present, and no other
+ * flag than that of a suppressed sequence number; sequence number if there is one; PAN ID; destination 0xFFFF;
+ * source; header element 0x7E; one MLME group of synchronization, timeslot, channel hopping, and slotframe and link;
+ * joining information, if present, in an IETF group; no group 15. Timings take the form of 25 bytes if both of the
+ * last two fit in 2 bytes, else that of 27. `tesolvagna_beacon_read` gives the same record for it.
  */
-uint8_t tesolvagna_write(uint8_t *room, size_t room_length, const uint64_t *numbers, size_t numbers_length,
-                         const uint32_t *timings, size_t timings_length, const uint16_t *links, size_t links_length,
-                         const uint8_t *network, size_t network_length, size_t *length);
+struct tesolvagna_written tesolvagna_beacon_write(uint8_t *buffer, size_t buffer_length,
+                                                  struct tesolvagna_beacon beacon);
+
+/*
+ * Finds the network ID in a frame, for a caller that does not want to copy it.
+ *
+ * frame, length   the received bytes; never written
+ *
+ * Offset and length are 0 if `tesolvagna_beacon_read` refuses the frame, for whatever reason, if it has no joining
+ * information, and if its network ID has no bytes. No number is given.
+ */
+struct tesolvagna_span tesolvagna_beacon_network_id(const uint8_t *frame, size_t length);
+
+/*
+ * The neighbour table
+ */
+
+/* A place of the table. A free place is all 0. */
+struct tesolvagna_neighbour {
+    /* The neighbour's identifier; 0 is one too. */
+    uint64_t id;
+    /* The rank that it advertised. */
+    uint16_t rank;
+    /* The attempts to send to it that are counted, at most 255. */
+    uint16_t attempts;
+    /* The acknowledgements that are counted, at most `attempts`. */
+    uint16_t acknowledged;
+    /* Whether a neighbour has the place. */
+    bool in_use;
+};
+
+/*
+ * The neighbours and the held parent. `tesolvagna_table_init` gives a table to start with, and each call gives back
+ * the one to go on with: `table = answer.table` is right after a refusal too.
+ *
+ * Every call refuses with 8, and gives back as it is, a table with attempts over 255, more acknowledged than
+ * attempts, a free place that is not all 0, an identifier at two places in use, a held parent that is at none of
+ * them, or a `parent` that is not 0 where none is held.
+ */
+struct tesolvagna_table {
+    /* The places, free or in use. */
+    struct tesolvagna_neighbour neighbours[TESOLVAGNA_NEIGHBOURS];
+    /* Whether a parent is held. */
+    bool has_parent;
+    /* The held parent's identifier, 0 where none is held. */
+    uint64_t parent;
+};
+
+/* What a call gives. */
+struct tesolvagna_table_answer {
+    /* enum tesolvagna_number */
+    uint8_t number;
+    /* The table after the call; on a refusal the one that was given. */
+    struct tesolvagna_table table;
+};
+
+/* What an evaluation gives. */
+struct tesolvagna_evaluation {
+    /* enum tesolvagna_number */
+    uint8_t number;
+    /* Whether another parent is held than before; none counts as a value of its own. */
+    bool changed;
+    /* The own rank: 65535 without a parent, and on a refusal. */
+    uint16_t rank;
+    /* Whether a parent is held now. */
+    bool has_parent;
+    /* Its identifier, 0 without one. These two are also in `table`. */
+    uint64_t parent;
+    /* The table after the call; on a refusal the one that was given. */
+    struct tesolvagna_table table;
+};
+
+/* The calls of a log. */
+enum tesolvagna_call {
+    /* tesolvagna_table_advertise */
+    TESOLVAGNA_CALL_ADVERTISE = 0,
+    /* tesolvagna_table_report */
+    TESOLVAGNA_CALL_REPORT = 1,
+    /* tesolvagna_table_forget */
+    TESOLVAGNA_CALL_FORGET = 2,
+    /* tesolvagna_table_evaluate */
+    TESOLVAGNA_CALL_EVALUATE = 3
+};
+
+/*
+ * What a log of calls comes to. The cost of a held parent is its rank and `tesolvagna_increment` of its counters, and 0
+ * where none is held.
+ *
+ * Where `applies` is true, 641 * changes + last_cost <= first_cost + rises, and changes <= 101 if rises is 0.
+ */
+struct tesolvagna_replay {
+    /* enum tesolvagna_number */
+    uint8_t number;
+    /* Whether there was an evaluation, and the parent held on entry to each one was eligible there. */
+    bool applies;
+    /* How many evaluations there were. */
+    uint32_t evaluations;
+    /* How many evaluations changed the held parent. */
+    uint32_t changes;
+    /* The held parent's cost on entry to an evaluation less its cost on exit from the one before, where that is not
+     * negative: all of these added up. */
+    uint64_t rises;
+    /* The held parent's cost on entry to the first evaluation, 0 without an evaluation. */
+    uint32_t first_cost;
+    /* The held parent's cost on exit from the last evaluation, 0 without an evaluation. */
+    uint32_t last_cost;
+    /* The table after the last call; on a refusal the one that was given. */
+    struct tesolvagna_table table;
+};
+
+/* The empty table: all places free, no parent held. Nothing is refused. */
+struct tesolvagna_table tesolvagna_table_init(void);
+
+/*
+ * Sets the rank of neighbour `id`. A new neighbour gets the lowest-numbered free place, with no attempts.
+ *
+ * number 0    done
+ * number 8    the table is refused
+ * number 11   the neighbour is new, and all 32 places are in use
+ *
+ * On a refusal the table is given back as it is. Every rank is taken.
+ */
+struct tesolvagna_table_answer tesolvagna_table_advertise(struct tesolvagna_table table, uint64_t id, uint16_t rank);
+
+/*
+ * Counts 1 to 4 attempts to send a frame to neighbour `id`, and one acknowledgement if `acknowledged` is true. Where
+ * the attempts would pass 255, both counters of the neighbour are halved first, rounding down.
+ *
+ * number 0    done
+ * number 8    the table is refused, or `attempts` is not 1 to 4
+ * number 10   the neighbour is not in the table
+ *
+ * The first of these that applies is given. On a refusal the table is given back as it is.
+ */
+struct tesolvagna_table_answer tesolvagna_table_report(struct tesolvagna_table table, uint64_t id, uint32_t attempts,
+                                                       bool acknowledged);
+
+/*
+ * Frees the place of neighbour `id`. If it was the held parent, none is held now.
+ *
+ * number 0    done
+ * number 8    the table is refused
+ * number 10   the neighbour is not in the table
+ *
+ * On a refusal the table is given back as it is.
+ */
+struct tesolvagna_table_answer tesolvagna_table_forget(struct tesolvagna_table table, uint64_t id);
+
+/*
+ * Chooses the parent and gives the own rank, which is the parent's cost.
+ *
+ * The cost of a neighbour is its rank and `tesolvagna_increment` of its counters. A neighbour is eligible with a rank
+ * of at least 256, at least 1 acknowledged, 3 * attempts at most 11 * acknowledged and a cost of at most 65534. The
+ * best has the least cost, and among equals the lower identifier. The held parent is changed for the best if none is
+ * held, if it is not eligible, or if its cost is more than 640 over the best one's. With no eligible neighbour no
+ * parent is held and the own rank is 65535; that is no refusal.
+ *
+ * number 0   done: the table has the parent, and nothing else of it is changed
+ * number 8   the table is refused
+ *
+ * On a refusal the rank is 65535, `changed` is false, and table and parent are given back as they are.
+ */
+struct tesolvagna_evaluation tesolvagna_table_evaluate(struct tesolvagna_table table);
+
+/*
+ * Runs a log of calls, each on the table that the call before it gave back. A log is four lists with one row for each
+ * call, and is only read:
+ *
+ * kinds    enum tesolvagna_call
+ * ids      the neighbour of all calls but an evaluation
+ * values   the rank of an advertisement, the attempts of a report
+ * flags    1 if a report was acknowledged, else 0
+ *
+ * Each list comes with its length. What a call does not take is not looked at, except that a flag is 0 or 1 in every
+ * row. Calls that are refused stay in the log and change nothing.
+ *
+ * number 0   done
+ * number 8   the table is refused; the lists are not equally long; there are over 65535 rows; a kind is over 3 or a
+ *            flag over 1
+ *
+ * On a refusal all counts are 0, `applies` is false, and the table is given back as it is.
+ */
+struct tesolvagna_replay tesolvagna_table_replay(struct tesolvagna_table table, const uint8_t *kinds, size_t kind_count,
+                                                 const uint64_t *ids, size_t id_count, const uint16_t *values,
+                                                 size_t value_count, const uint8_t *flags, size_t flag_count);
+
+/*
+ * Slot and channel
+ */
+
+/* What a node does in a slot. */
+enum tesolvagna_action {
+    /* Nothing: the radio is off. */
+    TESOLVAGNA_SLEEP = 0,
+    /* Send the frame that waits. */
+    TESOLVAGNA_TRANSMIT = 1,
+    /* Wait for a frame. */
+    TESOLVAGNA_LISTEN = 2
+};
+
+/* A slot decision. All but the number is 0 on a refusal. */
+struct tesolvagna_slot {
+    /* enum tesolvagna_number */
+    uint8_t number;
+    /* enum tesolvagna_action */
+    uint8_t action;
+    /* The channel, 11 to 26; 0 asleep. */
+    uint8_t channel;
+    /* The link's place in the list, counted from 0; 0 asleep. */
+    uint8_t index;
+};
+
+/*
+ * Decides what to do in slot `asn`.
+ *
+ * links, link_count   the links of the slotframe, in their order; never written
+ * size                how many slots the slotframe has; also over 65535 it is taken as it is
+ * sequence_id         the hopping sequence ID
+ * asn                 the absolute slot number
+ * waits               whether a frame waits to be sent
+ *
+ * A link is active if its timeslot is `asn` mod `size`. If a frame waits and an active link has the transmit option:
+ * transmit on the first such link. Else, if an active link has the receive option: listen on the first such link.
+ * Else sleep. The channel is that of `tesolvagna_channel` for the link. Other option bits play no part, those over
+ * 255 neither.
+ *
+ * number 0   done
+ * number 8   `size` is 0, `link_count` is not 1 to 16, a link's timeslot is not below `size`, `sequence_id` is not 0,
+ *            or `asn` is over 2^40 - 1
+ *
+ * A refusal is to sleep: action, channel and index are 0.
+ */
+struct tesolvagna_slot tesolvagna_slot_decide(const struct tesolvagna_link *links, size_t link_count, uint32_t size,
+                                              uint32_t sequence_id, uint64_t asn, bool waits);
+
+/*
+ * The channel, 11 to 26, of a slot and a channel offset: entry (asn + channel_offset) mod 16, counted from 0, of the
+ * default hopping sequence 16, 17, 23, 18, 26, 15, 25, 22, 19, 11, 12, 13, 24, 14, 20, 21. Nothing is refused: every
+ * `asn` has a channel, also one over 2^40 - 1.
+ */
+uint8_t tesolvagna_channel(uint64_t asn, uint16_t channel_offset);
+
+/*
+ * Rank
+ */
+
+/*
+ * How much a neighbour adds to its rank, after so many attempts of which so many were acknowledged: the smallest whole
+ * number that is not below 256 * (3 * attempts - 2 * acknowledged) / acknowledged. It is 0 where `acknowledged` is 0 or
+ * 2 * acknowledged is over 3 * attempts. Nothing is refused.
+ */
+uint32_t tesolvagna_increment(uint16_t attempts, uint16_t acknowledged);
+
+/* What the question for a join metric gives. */
+struct tesolvagna_metric {
+    /* enum tesolvagna_number */
+    uint8_t number;
+    /* The join metric, 0 on a refusal. */
+    uint8_t metric;
+};
+
+/*
+ * The join metric that a node of this rank puts into its beacons: rank / 256 - 1, rounded down.
+ *
+ * number 0   done, for the ranks 256 to 65534
+ * number 8   any other rank: such a node sends no beacon
+ *
+ * On a refusal the metric is 0.
+ */
+struct tesolvagna_metric tesolvagna_join_metric(uint32_t rank);
 
 #ifdef __cplusplus
 }
 #endif
 
-/* The layout that the library was built with. */
-#if defined(__cplusplus)
-#define TESOLVAGNA_ASSERT(fact) static_assert(fact, #fact)
-#elif defined(__GNUC__)
-/* Before C11 a compiler's extension, which it is told so as not to warn. */
-#define TESOLVAGNA_ASSERT(fact) __extension__ _Static_assert(fact, #fact)
-#else
-#define TESOLVAGNA_ASSERT(fact) _Static_assert(fact, #fact)
-#endif
+/* The sizes that the library was built with; a compiler that is told to lay structs out otherwise stops here. */
+#define TESOLVAGNA_SIZE(name, size) \
+    typedef char tesolvagna_size_of_##name[sizeof(struct tesolvagna_##name) == (size) ? 1 : -1]
 
-TESOLVAGNA_ASSERT(sizeof(struct tesolvagna_link) == 6);
-TESOLVAGNA_ASSERT(offsetof(struct tesolvagna_link, timeslot) == 0);
-TESOLVAGNA_ASSERT(offsetof(struct tesolvagna_link, offset) == 2);
-TESOLVAGNA_ASSERT(offsetof(struct tesolvagna_link, options) == 4);
+TESOLVAGNA_SIZE(link, 6);
+TESOLVAGNA_SIZE(synchronization, 16);
+TESOLVAGNA_SIZE(timeslot, 52);
+TESOLVAGNA_SIZE(slotframe, 102);
+TESOLVAGNA_SIZE(joining, 40);
+TESOLVAGNA_SIZE(beacon, 232);
+TESOLVAGNA_SIZE(reading, 240);
+TESOLVAGNA_SIZE(written, 16);
+TESOLVAGNA_SIZE(span, 16);
+TESOLVAGNA_SIZE(neighbour, 16);
+TESOLVAGNA_SIZE(table, 528);
+TESOLVAGNA_SIZE(table_answer, 536);
+TESOLVAGNA_SIZE(evaluation, 544);
+TESOLVAGNA_SIZE(replay, 560);
+TESOLVAGNA_SIZE(slot, 4);
+TESOLVAGNA_SIZE(metric, 2);
 
-TESOLVAGNA_ASSERT(sizeof(struct tesolvagna_slot) == 16);
-TESOLVAGNA_ASSERT(offsetof(struct tesolvagna_slot, number) == 0);
-TESOLVAGNA_ASSERT(offsetof(struct tesolvagna_slot, action) == 1);
-TESOLVAGNA_ASSERT(offsetof(struct tesolvagna_slot, channel) == 2);
-TESOLVAGNA_ASSERT(offsetof(struct tesolvagna_slot, place) == 8);
-
-TESOLVAGNA_ASSERT(sizeof(struct tesolvagna_evaluated) == 4);
-TESOLVAGNA_ASSERT(sizeof(struct tesolvagna_metric) == 2);
-TESOLVAGNA_ASSERT(sizeof(struct tesolvagna_counts) == 56);
-
-/* The places leave no gap. */
-TESOLVAGNA_ASSERT((int)TESOLVAGNA_NEIGHBOURS * (int)TESOLVAGNA_NEIGHBOUR_STRIDE == (int)TESOLVAGNA_PARENT_PRESENT);
-TESOLVAGNA_ASSERT(TESOLVAGNA_PARENT_ID + 1 == TESOLVAGNA_TABLE_NUMBERS);
-TESOLVAGNA_ASSERT((int)TESOLVAGNA_MOST_LINKS * (int)TESOLVAGNA_LINK_STRIDE == (int)TESOLVAGNA_LINK_NUMBERS);
-
-#undef TESOLVAGNA_ASSERT
+#undef TESOLVAGNA_SIZE
 
 #endif

@@ -1,6 +1,8 @@
 #!/usr/bin/env bash
-# Looks for memory errors of the library's reader: every frame of the differential test is read from C under valgrind,
-# in a heap block of exactly its size (c/frames.c). An address sanitizer would not do: it sees only what it compiled.
+# Looks for memory errors of the library's reader and writer: every frame of the differential test is read from C under
+# valgrind, in a heap block of exactly its size, and the record of an accepted one is written into a block of just enough
+# bytes (c/frames.c). The other C programs run under it too, so that no field of an answer is left unwritten. An address
+# sanitizer would not do: it sees only what it compiled.
 # Not part of the gate. Needs valgrind, cc, cargo and the static library, found as build.rs finds it.
 set -euo pipefail
 cd "$(dirname "$0")"
@@ -16,7 +18,10 @@ fail() {
 
 command -v valgrind >/dev/null || fail "no valgrind"
 [[ -f $folder/libtesolvagna.a ]] || fail "no static library at $folder/libtesolvagna.a"
-cc -std=c99 -g -O1 -Wall -Wextra -Werror -pedantic -I ../include c/frames.c "$folder/libtesolvagna.a" -o "$work/frames"
+for name in frames header beacons; do
+    cc -std=c99 -g -O1 -Wall -Wextra -Wconversion -Wpedantic -Werror -I ../include "c/$name.c" "$folder/libtesolvagna.a" \
+        -o "$work/$name"
+done
 cargo build --release --offline --locked --quiet --bin dump_frames
 
 dump() {
@@ -24,13 +29,15 @@ dump() {
 }
 
 # A wide zone around each block, and no leave for a load that is only partly inside.
-check() {
-    valgrind --quiet --error-exitcode=9 --redzone-size=1024 --partial-loads-ok=no "$work/frames" "$@"
+check() { # PROGRAM ARGUMENT..
+    valgrind --quiet --error-exitcode=9 --redzone-size=1024 --partial-loads-ok=no "$work/$1" "${@:2}"
 }
 
 # The set-up must find an error that is there. The writer is cut off when the reader ends.
-dump 2>/dev/null | check probe >"$work/probe" 2>&1 || true
+dump 2>/dev/null | check frames probe >"$work/probe" 2>&1 || true
 grep -q "Invalid read of size 1" "$work/probe" || fail "valgrind did not find a read behind a frame"
 
-dump | check | tee "$work/verdict" || fail "see above"
+check header || fail "c/header.c"
+check beacons || fail "c/beacons.c"
+dump | check frames | tee "$work/verdict" || fail "see above"
 echo "sanitize: passed: $(cat "$work/verdict"), no memory error"

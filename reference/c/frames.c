@@ -1,7 +1,7 @@
 /*
- * Reads frames from standard input and lets the library read each; to be run under valgrind. The frame and each array
- * of the record have a heap block of exactly their size, so that valgrind sees every access beside them and every place
- * that is left unwritten. The exit status is 0 if all answers are as expected.
+ * Reads frames from standard input and lets the library read each; to be run under valgrind. Each frame has a heap
+ * block of exactly its size, so that valgrind sees every access beside it; the checksum takes in every field of the
+ * answer, so that it sees one that is left unwritten. The exit status is 0 if all answers are as expected.
  *
  * With the argument `probe` it reads one byte behind a frame itself: valgrind must find that.
  */
@@ -41,36 +41,79 @@ static uint64_t add(uint64_t sum, uint64_t number)
     return (sum ^ number) * 0x100000001B3;
 }
 
+/* The same for a record, field by field. */
+static uint64_t add_beacon(uint64_t sum, const struct tesolvagna_beacon *beacon)
+{
+    int i;
+
+    sum = add(sum, beacon->has_sequence_number);
+    sum = add(sum, beacon->sequence_number);
+    sum = add(sum, beacon->pan_id);
+    sum = add(sum, beacon->source_is_extended);
+    sum = add(sum, beacon->source);
+    sum = add(sum, beacon->synchronization.asn);
+    sum = add(sum, beacon->synchronization.join_metric);
+    sum = add(sum, beacon->timeslot.template_id);
+    sum = add(sum, beacon->timeslot.has_timings);
+    for (i = 0; i < TESOLVAGNA_TIMINGS; i++)
+        sum = add(sum, beacon->timeslot.timings[i]);
+    sum = add(sum, beacon->hopping_sequence_id);
+    sum = add(sum, beacon->slotframe.handle);
+    sum = add(sum, beacon->slotframe.size);
+    sum = add(sum, beacon->slotframe.link_count);
+    for (i = 0; i < TESOLVAGNA_MOST_LINKS; i++) {
+        sum = add(sum, beacon->slotframe.links[i].timeslot);
+        sum = add(sum, beacon->slotframe.links[i].channel_offset);
+        sum = add(sum, beacon->slotframe.links[i].options);
+    }
+    sum = add(sum, beacon->joining.present);
+    sum = add(sum, beacon->joining.router);
+    sum = add(sum, beacon->joining.proxied);
+    sum = add(sum, beacon->joining.proxy_priority);
+    sum = add(sum, beacon->joining.rank_priority);
+    sum = add(sum, beacon->joining.pan_priority);
+    sum = add(sum, beacon->joining.proxy_address);
+    sum = add(sum, beacon->joining.network_id_length);
+    for (i = 0; i < TESOLVAGNA_NETWORK_ID_BYTES; i++)
+        sum = add(sum, beacon->joining.network_id[i]);
+    return sum;
+}
+
 /* The checksum of the library's whole answer on the frame. */
 static uint64_t answer(const uint8_t *frame, size_t length)
 {
-    uint64_t *numbers = block(TESOLVAGNA_NUMBERS * sizeof *numbers);
-    uint32_t *timings = block(TESOLVAGNA_TIMINGS * sizeof *timings);
-    uint16_t *links = block(TESOLVAGNA_LINK_NUMBERS * sizeof *links);
-    uint8_t *network = block(TESOLVAGNA_NETWORK_ID_BYTES);
-    size_t *start = block(sizeof *start);
+    const struct tesolvagna_reading reading = tesolvagna_beacon_read(frame, length);
+    const struct tesolvagna_span network_id = tesolvagna_beacon_network_id(frame, length);
     uint64_t sum = 0xCBF29CE484222325;
-    int place;
 
-    sum = add(sum, tesolvagna_read(frame, length, numbers, TESOLVAGNA_NUMBERS, timings, TESOLVAGNA_TIMINGS, links,
-                                   TESOLVAGNA_LINK_NUMBERS, network, TESOLVAGNA_NETWORK_ID_BYTES));
-    for (place = 0; place < TESOLVAGNA_NUMBERS; place++)
-        sum = add(sum, numbers[place]);
-    for (place = 0; place < TESOLVAGNA_TIMINGS; place++)
-        sum = add(sum, timings[place]);
-    for (place = 0; place < TESOLVAGNA_LINK_NUMBERS; place++)
-        sum = add(sum, links[place]);
-    for (place = 0; place < TESOLVAGNA_NETWORK_ID_BYTES; place++)
-        sum = add(sum, network[place]);
-    sum = add(sum, tesolvagna_network_id(frame, length, start));
-    sum = add(sum, *start);
-
-    free(numbers);
-    free(timings);
-    free(links);
-    free(network);
-    free(start);
+    sum = add(sum, reading.number);
+    sum = add_beacon(sum, &reading.beacon);
+    sum = add(sum, network_id.offset);
+    sum = add(sum, network_id.length);
     return sum;
+}
+
+/* Whether the record of an accepted frame, written into a block of just enough bytes, reads as another one. */
+static bool differs_written(const uint8_t *frame, size_t length)
+{
+    const struct tesolvagna_reading reading = tesolvagna_beacon_read(frame, length);
+    struct tesolvagna_reading again;
+    struct tesolvagna_written written;
+    uint8_t longest[TESOLVAGNA_LONGEST_FRAME], *buffer;
+    bool differs;
+
+    if (reading.number != TESOLVAGNA_DONE)
+        return false;
+    written = tesolvagna_beacon_write(longest, sizeof longest, reading.beacon);
+    if (written.number != TESOLVAGNA_DONE || written.length > length)
+        return true;
+    buffer = block(written.length);
+    written = tesolvagna_beacon_write(buffer, written.length, reading.beacon);
+    again = tesolvagna_beacon_read(buffer, written.length);
+    differs = written.number != TESOLVAGNA_DONE || again.number != TESOLVAGNA_DONE
+              || add_beacon(0, &again.beacon) != add_beacon(0, &reading.beacon);
+    free(buffer);
+    return differs;
 }
 
 int main(int count, char **arguments)
@@ -90,7 +133,7 @@ int main(int count, char **arguments)
         memcpy(copy, frame, length);
         if (probe && frame[length] == 0x55)
             frames += 1;
-        if (answer(frame, length) != expected || memcmp(frame, copy, length) != 0)
+        if (answer(frame, length) != expected || differs_written(frame, length) || memcmp(frame, copy, length) != 0)
             wrong += 1;
         frames += 1;
         free(frame);

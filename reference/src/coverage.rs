@@ -1,14 +1,14 @@
 //! Counts of what random cases reached, so that a test fails when its cases miss something.
 
 use crate::calls::CallList;
-use crate::flat::Flat;
 use crate::frame::{Address, Beacon, Check, LONGEST_FRAME, LONGEST_NETWORK_ID};
 use crate::frames::Kind;
+use crate::interface as c;
 use crate::records::{self, Shape};
 use crate::slot::MOST_LINKS;
 use crate::stability::Run;
 use crate::table::{Call, Place, Table};
-use crate::write::{frame_length, Limit, Record, Refusal};
+use crate::write::{frame_length, Limit, Misfit, Record, Refusal};
 use std::collections::{BTreeMap, BTreeSet};
 
 /// How often each named thing was met.
@@ -357,7 +357,7 @@ pub struct WriteCoverage {
     alone: Counts,
     together: BTreeMap<(Limit, Limit), usize>,
     orders: Counts,
-    rooms: Counts,
+    buffers: Counts,
     records: Counts,
     lengths: BTreeMap<usize, usize>,
 }
@@ -371,40 +371,40 @@ impl WriteCoverage {
         (Limit::NetworkLength, Limit::UnusedNetwork),
     ];
 
-    /// Counts a record, the length of its room and the reference's answer.
-    pub fn add(&mut self, kind: records::Kind, flat: &Flat, room: usize, answer: &Result<usize, Refusal>) {
+    /// Counts a record, the length of its buffer and the reference's answer.
+    pub fn add(&mut self, kind: records::Kind, beacon: &c::Beacon, buffer: usize, answer: &Result<usize, Refusal>) {
         self.kinds.add(format!("{kind:?}"));
         self.numbers.add(answer.map_or_else(Refusal::number, |_| 0).to_string());
         if let Err(refusal) = answer {
             self.refusals.add(format!("{refusal:?}"));
         }
-        if let Ok(record) = Record::from_flat(flat) {
-            self.add_record(&record, room, answer);
+        if let Ok(record) = Record::from_c(beacon) {
+            self.add_record(&record, buffer, answer);
         }
     }
 
-    fn add_record(&mut self, record: &Record, room: usize, answer: &Result<usize, Refusal>) {
+    fn add_record(&mut self, record: &Record, buffer: usize, answer: &Result<usize, Refusal>) {
         let length = frame_length(record);
-        let (too_long, no_room) = (length > LONGEST_FRAME, room < length);
+        let (too_long, too_short) = (length > LONGEST_FRAME, buffer < length);
         match answer {
             Err(Refusal::Misfit(_)) => unreachable!("it is a record"),
             Err(Refusal::Limit(_)) => {
                 self.add_limits(&record.broken_limits());
-                self.orders.add_if(too_long && !no_room, "8 for a frame too long");
-                self.orders.add_if(!too_long && no_room, "8 for a room too short");
-                self.orders.add_if(too_long && no_room, "8 for a frame too long and a room too short for it");
+                self.orders.add_if(too_long && !too_short, "8 for a frame too long");
+                self.orders.add_if(!too_long && too_short, "8 for a buffer too short");
+                self.orders.add_if(too_long && too_short, "8 for a frame too long and a buffer too short for it");
                 return;
             }
             Err(Refusal::FrameTooLong) => {
-                self.orders.add(if no_room { "1 for a room too short" } else { "1 for a room long enough" });
+                self.orders.add(if too_short { "1 for a buffer too short" } else { "1 for a buffer long enough" });
             }
-            Err(Refusal::NoRoom) => self.rooms.add(match (room, length - room) {
+            Err(Refusal::BufferTooShort) => self.buffers.add(match (buffer, length - buffer) {
                 (0, _) => "9, no byte",
                 (_, 1) => "9, a byte short",
                 _ => "9, some bytes short",
             }),
             Ok(_) => {
-                self.rooms.add(match room - length {
+                self.buffers.add(match buffer - length {
                     0 => "0, just long enough",
                     1 => "0, a byte left",
                     _ => "0, some bytes left",
@@ -426,16 +426,16 @@ impl WriteCoverage {
         }
     }
 
-    /// Panics unless there was every kind of record, every number, refusal, pair of limits, room and form of the record
+    /// Panics unless there was every kind of record, every number, refusal, pair of limits, buffer and form of the record
     /// was met at least `least` times, and every length of a frame.
     pub fn expect(&self, least: usize) {
         self.kinds.expect("records", 1, &records::Kind::ALL.map(|kind| format!("{kind:?}")));
         self.numbers.expect("numbers", least, &[0, 1, 8, 9].map(|number| number.to_string()));
         let limits = Limit::ALL.iter().map(|limit| Refusal::Limit(*limit));
-        let misfits = records::misfits().into_iter().map(Refusal::Misfit);
+        let misfits = Misfit::ALL.map(Refusal::Misfit);
         let refusals: Vec<String> = limits
             .chain(misfits)
-            .chain([Refusal::FrameTooLong, Refusal::NoRoom])
+            .chain([Refusal::FrameTooLong, Refusal::BufferTooShort])
             .map(|refusal| format!("{refusal:?}"))
             .collect();
         self.refusals.expect("first fault", least, &refusals);
@@ -452,14 +452,14 @@ impl WriteCoverage {
             least,
             &[
                 "8 for a frame too long",
-                "8 for a room too short",
-                "8 for a frame too long and a room too short for it",
-                "1 for a room too short",
-                "1 for a room long enough",
+                "8 for a buffer too short",
+                "8 for a frame too long and a buffer too short for it",
+                "1 for a buffer too short",
+                "1 for a buffer long enough",
             ],
         );
-        self.rooms.expect(
-            "rooms",
+        self.buffers.expect(
+            "buffers",
             least,
             &[
                 "9, no byte",

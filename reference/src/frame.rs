@@ -3,7 +3,7 @@
 //! Reading has two halves. The first goes through the frame, makes every check in its order and keeps the content of
 //! each known element; the second decodes what was kept, where nothing can go wrong any more.
 
-use crate::refusal::{ADDRESSING, CUT, MISSING_OR_TWICE, NOT_A_BEACON, OUTSIDE_LIMITS, SECURED, SHAPE, TOO_LONG};
+use crate::refusal::{ADDRESSING, CUT, FRAME_TOO_LONG, MISSING_OR_TWICE, OUT_OF_LIMITS, SECURED, SHAPE, WRONG_TYPE};
 use crate::slot::{Link, MOST_LINKS};
 
 pub use crate::header::{LONGEST_FRAME, NETWORK_ID_BYTES as LONGEST_NETWORK_ID, TIMINGS};
@@ -97,11 +97,11 @@ macro_rules! checks {
 }
 
 checks! {
-    FrameTooLong: TOO_LONG,
+    FrameTooLong: FRAME_TOO_LONG,
     /// No room for the frame control field.
     UnderTwoBytes: CUT,
-    FrameType: NOT_A_BEACON,
-    FrameVersion: NOT_A_BEACON,
+    FrameType: WRONG_TYPE,
+    FrameVersion: WRONG_TYPE,
     Security: SECURED,
     DestinationMode: ADDRESSING,
     SourceMode: ADDRESSING,
@@ -134,20 +134,20 @@ checks! {
     TimeslotLength: SHAPE,
     TimeslotTwice: MISSING_OR_TWICE,
     /// A template ID alone, and not 0.
-    TimeslotTemplate: OUTSIDE_LIMITS,
+    TimeslotTemplate: OUT_OF_LIMITS,
     HoppingEmpty: SHAPE,
     HoppingTwice: MISSING_OR_TWICE,
-    HoppingTooLong: OUTSIDE_LIMITS,
+    HoppingTooLong: OUT_OF_LIMITS,
     SlotframeUnderFiveBytes: SHAPE,
     /// Not exactly one slotframe.
-    SlotframeCount: OUTSIDE_LIMITS,
+    SlotframeCount: OUT_OF_LIMITS,
     /// The length does not go with the number of links.
     SlotframeLength: SHAPE,
     SlotframeTwice: MISSING_OR_TWICE,
-    SlotframeSize: OUTSIDE_LIMITS,
-    NoLinks: OUTSIDE_LIMITS,
-    TooManyLinks: OUTSIDE_LIMITS,
-    LinkTimeslot: OUTSIDE_LIMITS,
+    SlotframeSize: OUT_OF_LIMITS,
+    NoLinks: OUT_OF_LIMITS,
+    TooManyLinks: OUT_OF_LIMITS,
+    LinkTimeslot: OUT_OF_LIMITS,
 
     /// No room for the flags and priorities.
     JoiningTooShort: SHAPE,

@@ -138,18 +138,16 @@ fn visit_words(frame: &[u8], at: usize, visit: &mut dyn FnMut(&[u8])) {
 mod tests {
     use super::*;
     use crate::coverage::FrameCoverage;
-    use crate::flat::{self, BLANK};
-    use crate::frame;
+    use crate::interface::Reading;
+    use crate::{direct, frame};
 
-    /// The reference alone: its frames reach every check often, and the reader that fills arrays agrees with it.
+    /// The reference alone: its frames reach every check often, and the reader that fills C's record agrees with it.
     #[test]
     fn frames_reach_every_check() {
         let mut coverage = FrameCoverage::default();
-        let (mut record, mut expected) = (BLANK, BLANK);
         visit_all(&mut |kind, frame| {
             let answer = frame::read(frame);
-            let number = flat::lay_out(&answer, &mut expected);
-            assert_eq!((flat::read(frame, &mut record), &record), (number, &expected), "{kind:?} {frame:02X?}");
+            assert_eq!(direct::read(frame), Reading::of(&answer), "{kind:?} {frame:02X?}");
             coverage.add(kind, frame, &answer);
         });
         coverage.expect(1000);

@@ -3,15 +3,18 @@
 
 pub mod beacons;
 pub mod calls;
+pub mod convert;
 pub mod coverage;
 pub mod damage;
-pub mod flat;
+pub mod direct;
 pub mod frame;
 pub mod frames;
 pub mod header;
-pub mod lent;
+pub mod interface;
 #[cfg(feature = "library")]
 pub mod library;
+pub mod log;
+pub mod measure;
 pub mod metric;
 pub mod parts;
 pub mod random;

@@ -1,6 +1,6 @@
 //! What a neighbour costs, whether it can be a parent, and the join metric: the reference for the rank rules.
 
-use crate::refusal::OUTSIDE_LIMITS;
+use crate::refusal::OUT_OF_LIMITS;
 
 pub const LEAST_RANK: u16 = 256;
 pub const LARGEST_COST: i128 = 65534;
@@ -28,19 +28,18 @@ pub fn eligible(rank: u16, attempts: u64, acknowledged: u64) -> bool {
         && cost(rank, attempts, acknowledged).is_some_and(|cost| cost <= LARGEST_COST)
 }
 
-/// The join metric's answer; a refused metric is 0. Laid out as in C, so that the library can give it too.
+/// The join metric's answer; a refused metric is 0.
 #[derive(Clone, Copy, Debug, PartialEq, Eq)]
-#[repr(C)]
 pub struct JoinMetric {
     pub number: u8,
     pub metric: u8,
 }
 
 /// The join metric that a node of this rank sends in its beacons.
-pub fn join_metric(rank: u16) -> JoinMetric {
+pub fn join_metric(rank: u32) -> JoinMetric {
     match rank {
         256..=65534 => JoinMetric { number: 0, metric: (rank / 256 - 1) as u8 },
-        _ => JoinMetric { number: OUTSIDE_LIMITS, metric: 0 },
+        _ => JoinMetric { number: OUT_OF_LIMITS, metric: 0 },
     }
 }
 
@@ -119,7 +118,7 @@ mod tests {
         for (rank, number, metric) in cases {
             assert_eq!(join_metric(rank), JoinMetric { number, metric }, "rank {rank}");
         }
-        for rank in [0, 255, 65535] {
+        for rank in [0, 255, 65535, 65536, 65536 + 256, u32::MAX] {
             assert_eq!(join_metric(rank), JoinMetric { number: 8, metric: 0 }, "rank {rank}");
         }
     }
@@ -131,7 +130,7 @@ mod tests {
         for hop in ranks.windows(2) {
             assert_eq!(cost(hop[0], 100, 75), Some(i128::from(hop[1])));
         }
-        let metrics = ranks.map(|rank| join_metric(rank).metric);
+        let metrics = ranks.map(|rank| join_metric(rank.into()).metric);
         assert_eq!(metrics, [0, 2, 4, 6, 8, 10]);
     }
 }

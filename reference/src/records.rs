@@ -1,17 +1,19 @@
-//! The records of the differential test of writing, always the same: worked ones, records of every shape, rooms of
-//! every length, every bit flip of samples, each limit broken alone and with each other one, and numbers that do not fit
-//! their field. Each comes with the length of the room that it is to be written into.
+//! The records of the differential test of writing, always the same: worked ones, records of every shape, buffers of
+//! every length, every bit flip of samples, each limit broken alone and with each other one, and C's records that are no
+//! record's. Each comes with the length of the buffer that it is to be written into.
 
 use crate::beacons::{random_bytes, random_link, random_number};
-use crate::flat::{Flat, BLANK, NUMBERS, SEQUENCE, SEQUENCE_PRESENT, SOURCE, SOURCE_KIND};
 use crate::frame::{Address, LONGEST_FRAME, LONGEST_NETWORK_ID, TIMINGS};
+use crate::interface as c;
+use crate::interface::{Number, Numbers};
 use crate::random::Random;
 use crate::slot::{Link, LARGEST_ASN, MOST_LINKS};
 use crate::worked;
 use crate::write::{
-    frame_length, Joining, Limit, Misfit, Record, FIRST_TIMINGS, LARGEST, LARGEST_FIRST_TIMING, LARGEST_LAST_TIMING,
+    frame_length, Joining, Limit, Misfit, Record, FIRST_TIMINGS, LARGEST_FIRST_TIMING, LARGEST_LAST_TIMING,
     LARGEST_PROXY_PRIORITY, LARGEST_RANK_PRIORITY,
 };
+use std::ops::Range;
 
 /// What a record was made for.
 #[derive(Clone, Copy, Debug, PartialEq, Eq)]
@@ -20,19 +22,19 @@ pub enum Kind {
     Worked,
     /// Within the limits, in each shape.
     Shape,
-    /// Within the limits, with rooms of each length.
-    Room,
+    /// Within the limits, with buffers of each length.
+    Buffer,
     /// A record within the limits with one bit inverted.
     BitFlip,
     /// One limit is broken.
     Limit,
     /// Two limits are broken.
     TwoLimits,
-    /// One number does not fit its field.
+    /// C's record is no record's, for one reason.
     Misfit,
-    /// One number does not fit its field, and another does not either or a limit is broken.
+    /// C's record is no record's, for two reasons, or a limit is broken too.
     MisfitAndMore,
-    /// Random numbers in some places or in all.
+    /// Random numbers in some fields or in all.
     Random,
 }
 
@@ -40,7 +42,7 @@ impl Kind {
     pub const ALL: [Kind; 9] = [
         Kind::Worked,
         Kind::Shape,
-        Kind::Room,
+        Kind::Buffer,
         Kind::BitFlip,
         Kind::Limit,
         Kind::TwoLimits,
@@ -50,11 +52,11 @@ impl Kind {
     ];
 }
 
-/// No room is longer.
-pub const LONGEST_ROOM: usize = 300;
+/// No buffer is longer.
+pub const LONGEST_BUFFER: usize = 300;
 
-/// What is called for each record with its room's length.
-pub type Visit<'a> = dyn FnMut(Kind, &Flat, usize) + 'a;
+/// What is called for each record with its buffer's length.
+pub type Visit<'a> = dyn FnMut(Kind, &c::Beacon, usize) + 'a;
 
 /// Visits all records.
 pub fn visit_all(visit: &mut Visit) {
@@ -62,27 +64,27 @@ pub fn visit_all(visit: &mut Visit) {
     visit_worked(visit);
     for _ in 0..80 {
         for shape in Shape::all() {
-            let room = random_room(&mut random, shape.length());
-            visit(Kind::Shape, &shape.record(&mut random).to_flat(), room);
+            let buffer = random_buffer(&mut random, shape.length());
+            visit(Kind::Shape, &c::Beacon::of_record(&shape.record(&mut random)), buffer);
         }
     }
     for _ in 0..500 {
         let shape = Shape::random(&mut random);
-        let flat = shape.record(&mut random).to_flat();
-        for room in 0..=shape.length() + 20 {
-            visit(Kind::Room, &flat, room);
+        let beacon = c::Beacon::of_record(&shape.record(&mut random));
+        for buffer in 0..=shape.length() + 20 {
+            visit(Kind::Buffer, &beacon, buffer);
         }
     }
-    for _ in 0..100 {
+    for _ in 0..180 {
         visit_bit_flips(&mut random, visit);
     }
     visit_broken_limits(&mut random, visit);
     visit_misfits(&mut random, visit);
     for _ in 0..150_000 {
         let (record, length) = random_record(&mut random);
-        let mut flat = record.to_flat();
-        scatter(&mut random, &mut flat);
-        visit(Kind::Random, &flat, random_room(&mut random, length));
+        let mut beacon = c::Beacon::of_record(&record);
+        scatter(&mut random, &mut beacon);
+        visit(Kind::Random, &beacon, random_buffer(&mut random, length));
     }
 }
 
@@ -232,8 +234,8 @@ fn random_record(random: &mut Random) -> (Record, usize) {
     (shape.record(random), shape.length())
 }
 
-/// The length of a room for a frame of this length: often just the frame's, or about it, or about the longest frame's.
-fn random_room(random: &mut Random, length: usize) -> usize {
+/// The length of a buffer for a frame of this length: often just the frame's, or about it, or about the longest frame's.
+fn random_buffer(random: &mut Random, length: usize) -> usize {
     match random.below(12) {
         0 => 0,
         1 | 2 => length - 1,
@@ -243,7 +245,7 @@ fn random_room(random: &mut Random, length: usize) -> usize {
         8 => random.pick(&[124, 125, 126, 127, 128]),
         // Long enough, and 0 or little in one byte.
         9 => random.pick(&[255, 256, 257]),
-        _ => random.below(LONGEST_ROOM as u64) as usize,
+        _ => random.below(LONGEST_BUFFER as u64) as usize,
     }
 }
 
@@ -254,32 +256,41 @@ fn visit_worked(visit: &mut Visit) {
         };
         let record = Record::from_beacon(beacon);
         let length = frame_length(&record);
-        for room in [0, 1, length - 1, length, length + 1, length + 20, LONGEST_FRAME, LONGEST_ROOM] {
-            visit(Kind::Worked, &record.to_flat(), room);
+        for buffer in [0, 1, length - 1, length, length + 1, length + 20, LONGEST_FRAME, LONGEST_BUFFER] {
+            visit(Kind::Worked, &c::Beacon::of_record(&record), buffer);
         }
     }
 }
 
-/// A record with each bit of its arrays inverted.
+/// How many bits a record has; a flag has one.
+const BITS: usize = 6 + 25 * 8 + 51 * 16 + 12 * 32 + 3 * 64;
+
+/// Inverts a bit of a record, of those numbered below `BITS`.
+fn flip(beacon: &mut c::Beacon, bit: usize) {
+    let mut start = 0;
+    // Where in the next number the bit stands, if it does.
+    let mut place = |width: usize| {
+        let place = bit.checked_sub(start).filter(|place| *place < width);
+        start += width;
+        place
+    };
+    beacon.visit(&mut |number| match number {
+        Number::Flag(flag) => *flag ^= place(1).is_some(),
+        Number::U8(number) => *number ^= place(8).map_or(0, |at| 1 << at),
+        Number::U16(number) => *number ^= place(16).map_or(0, |at| 1 << at),
+        Number::U32(number) => *number ^= place(32).map_or(0, |at| 1 << at),
+        Number::U64(number) => *number ^= place(64).map_or(0, |at| 1 << at),
+        Number::Size(_) => unreachable!("a record has no such field"),
+    });
+}
+
+/// A record with each of its bits inverted.
 fn visit_bit_flips(random: &mut Random, visit: &mut Visit) {
     let (record, length) = random_record(random);
-    let flat = record.to_flat();
-    let mut flip = |change: &dyn Fn(&mut Flat)| {
-        let mut flat = flat.clone();
-        change(&mut flat);
-        visit(Kind::BitFlip, &flat, random_room(random, length));
-    };
-    for place in 0..flat.numbers.len() {
-        (0..64).for_each(|bit| flip(&|flat| flat.numbers[place] ^= 1 << bit));
-    }
-    for place in 0..flat.timings.len() {
-        (0..32).for_each(|bit| flip(&|flat| flat.timings[place] ^= 1 << bit));
-    }
-    for place in 0..flat.links.len() {
-        (0..16).for_each(|bit| flip(&|flat| flat.links[place] ^= 1 << bit));
-    }
-    for place in 0..flat.network.len() {
-        (0..8).for_each(|bit| flip(&|flat| flat.network[place] ^= 1 << bit));
+    for bit in 0..BITS {
+        let mut beacon = c::Beacon::of_record(&record);
+        flip(&mut beacon, bit);
+        visit(Kind::BitFlip, &beacon, random_buffer(random, length));
     }
 }
 
@@ -295,7 +306,7 @@ fn visit_broken_limits(random: &mut Random, visit: &mut Visit) {
             let (mut record, length) = random_record(random);
             break_limit(random, &mut record, limit);
             if record.broken_limits() == broken {
-                visit(Kind::Limit, &record.to_flat(), random_room(random, length));
+                visit(Kind::Limit, &c::Beacon::of_record(&record), random_buffer(random, length));
                 visited += 1;
             }
         }
@@ -308,7 +319,7 @@ fn visit_broken_limits(random: &mut Random, visit: &mut Visit) {
                 break_limit(random, &mut record, first);
                 break_limit(random, &mut record, second);
                 if !first.is_kept(&record) && !second.is_kept(&record) {
-                    visit(Kind::TwoLimits, &record.to_flat(), random_room(random, length));
+                    visit(Kind::TwoLimits, &c::Beacon::of_record(&record), random_buffer(random, length));
                 }
             }
         }
@@ -420,20 +431,13 @@ fn break_limit(random: &mut Random, record: &mut Record, limit: Limit) {
     }
 }
 
-/// Everything in the arrays that may not fit its field.
-pub fn misfits() -> Vec<Misfit> {
-    let numbers = (0..NUMBERS).filter(|place| LARGEST[*place] < u64::MAX).map(Misfit::Number);
-    numbers.chain([Misfit::AbsentSequence, Misfit::ShortSource, Misfit::Options]).collect()
-}
-
 fn visit_misfits(random: &mut Random, visit: &mut Visit) {
-    let misfits = misfits();
-    for &misfit in &misfits {
-        for _ in 0..4000 {
+    for misfit in Misfit::ALL {
+        for _ in 0..30_000 {
             let (record, length) = random_record(random);
-            let mut flat = record.to_flat();
-            break_fit(random, &mut flat, misfit);
-            visit(Kind::Misfit, &flat, random_room(random, length));
+            let mut beacon = c::Beacon::of_record(&record);
+            break_fit(random, &mut beacon, misfit);
+            visit(Kind::Misfit, &beacon, random_buffer(random, length));
         }
     }
     for _ in 0..100_000 {
@@ -442,69 +446,82 @@ fn visit_misfits(random: &mut Random, visit: &mut Visit) {
         if let Some(limit) = limit {
             break_limit(random, &mut record, limit);
         }
-        let mut flat = record.to_flat();
+        let mut beacon = c::Beacon::of_record(&record);
         for _ in 0..if limit.is_some() { 1 } else { 2 } {
-            let misfit = random.pick(&misfits);
-            break_fit(random, &mut flat, misfit);
+            let misfit = random.pick(&Misfit::ALL);
+            break_fit(random, &mut beacon, misfit);
         }
-        visit(Kind::MisfitAndMore, &flat, random_room(random, length));
+        visit(Kind::MisfitAndMore, &beacon, random_buffer(random, length));
     }
 }
 
-/// Changes a number so that it does not fit its field. Often it would in its low bits.
-fn break_fit(random: &mut Random, flat: &mut Flat, misfit: Misfit) {
-    let numbers = &mut flat.numbers;
+/// Changes C's record so that it is no record's. Often it would be one if a number were cut to its low bits.
+fn break_fit(random: &mut Random, beacon: &mut c::Beacon, misfit: Misfit) {
     match misfit {
-        Misfit::Number(place) => numbers[place] = over(random, numbers[place], LARGEST[place], u64::MAX),
         Misfit::AbsentSequence => {
-            numbers[SEQUENCE_PRESENT] = 0;
-            numbers[SEQUENCE] = random.between(1, 0xFF);
+            beacon.has_sequence_number = false;
+            beacon.sequence_number = random.between(1, 0xFF) as u8;
         }
         Misfit::ShortSource => {
-            numbers[SOURCE_KIND] = 0;
-            numbers[SOURCE] = over(random, numbers[SOURCE], 0xFFFF, u64::MAX);
+            beacon.source_is_extended = false;
+            beacon.source = over(random, beacon.source, 0xFFFF, u64::MAX);
         }
         Misfit::Options => {
-            let options = &mut flat.links[3 * random.below(MOST_LINKS as u64) as usize + 2];
+            let used = u64::from(beacon.slotframe.link_count).clamp(1, MOST_LINKS as u64);
+            let place = match random.below(4) {
+                0 => random.below(MOST_LINKS as u64),
+                _ => random.below(used),
+            };
+            let options = &mut beacon.slotframe.links[place as usize].options;
             *options = over(random, u64::from(*options), 0xFF, 0xFFFF) as u16;
         }
     }
 }
 
-/// Puts other numbers into a few places, or into all.
-fn scatter(random: &mut Random, flat: &mut Flat) {
-    let any = |random: &mut Random| match random.below(4) {
-        0 => random.below(3),
-        1 => random.below(20),
-        2 => random.number() >> random.below(64),
-        _ => random.number(),
-    };
-    if random.chance(5) {
-        *flat = BLANK;
-        flat.numbers.fill_with(|| any(random));
-        flat.timings.fill_with(|| any(random) as u32);
-        flat.links.fill_with(|| any(random) as u16);
-        flat.network.fill_with(|| any(random) as u8);
-        return;
-    }
-    for _ in 0..random.between(1, 4) {
-        let number = any(random);
-        match random.below(8) {
-            0 => flat.timings[random.below(flat.timings.len() as u64) as usize] = number as u32,
-            1 => flat.links[random.below(flat.links.len() as u64) as usize] = number as u16,
-            2 => flat.network[random.below(flat.network.len() as u64) as usize] = number as u8,
-            _ => flat.numbers[random.below(NUMBERS as u64) as usize] = number,
+/// Puts other numbers into a few fields, or into all.
+fn scatter(random: &mut Random, beacon: &mut c::Beacon) {
+    let fields = beacon.numbers().len() as u64;
+    let mut chosen = Vec::new();
+    if !random.chance(5) {
+        // Timings, links and bytes of the network ID are many: the other fields are drawn as often as all of these.
+        let few: Vec<u64> = (0..fields).filter(|field| !MANY.iter().any(|many| many.contains(field))).collect();
+        for _ in 0..random.between(1, 4) {
+            chosen.push(if random.chance(50) { random.below(fields) } else { random.pick(&few) });
         }
     }
+    let mut field = 0;
+    beacon.visit(&mut |number| {
+        if chosen.is_empty() || chosen.contains(&field) {
+            let any = match random.below(4) {
+                0 => random.below(3),
+                1 => random.below(20),
+                2 => random.number() >> random.below(64),
+                _ => random.number(),
+            };
+            match number {
+                Number::Flag(flag) => *flag = any % 2 == 1,
+                Number::U8(number) => *number = any as u8,
+                Number::U16(number) => *number = any as u16,
+                Number::U32(number) => *number = any as u32,
+                Number::U64(number) => *number = any,
+                Number::Size(_) => unreachable!("a record has no such field"),
+            }
+        }
+        field += 1;
+    });
 }
+
+/// Where the timings, the links and the bytes of the network ID stand among the numbers of a record.
+const MANY: [Range<u64>; 3] = [9..21, 25..73, 81..97];
 
 #[cfg(test)]
 mod tests {
     use super::*;
+    use crate::convert;
     use crate::coverage::WriteCoverage;
     use crate::frame;
     use crate::parts::house_form;
-    use crate::write::{write, write_flat};
+    use crate::write::write;
 
     /// The reference alone: its records reach every outcome often, and what it writes are the bytes of the house form,
     /// which read back as the record.
@@ -512,24 +529,24 @@ mod tests {
     fn records_reach_every_outcome() {
         let mut coverage = WriteCoverage::default();
         let mut random = Random::new(0x400);
-        visit_all(&mut |kind, flat, length| {
-            let before: [u8; LONGEST_ROOM] = std::array::from_fn(|_| random.number() as u8);
-            let mut room = before;
-            let answer = write_flat(flat, &mut room[..length]);
+        visit_all(&mut |kind, beacon, length| {
+            let before: [u8; LONGEST_BUFFER] = std::array::from_fn(|_| random.number() as u8);
+            let mut buffer = before;
+            let answer = convert::write(beacon, &mut buffer[..length]);
             let written = answer.unwrap_or(0);
-            assert_eq!(room[written..], before[written..], "{kind:?}, room of {length}: {flat:?}");
+            assert_eq!(buffer[written..], before[written..], "{kind:?}, buffer of {length}: {beacon:?}");
             if answer.is_ok() {
-                let record = Record::from_flat(flat).expect("what was written fits");
-                let beacon = record.to_beacon().expect("what was written is within the limits");
-                assert_eq!(room[..written], house_form(&beacon).bytes(), "{kind:?}: {flat:?}");
-                assert_eq!(frame::read(&room[..written]), Ok(beacon), "{kind:?}: {flat:?}");
+                let record = Record::from_c(beacon).expect("what was written is a record");
+                let read = record.to_beacon().expect("what was written is within the limits");
+                assert_eq!(buffer[..written], house_form(&read).bytes(), "{kind:?}: {beacon:?}");
+                assert_eq!(frame::read(&buffer[..written]), Ok(read), "{kind:?}: {beacon:?}");
             }
-            coverage.add(kind, flat, length, &answer);
+            coverage.add(kind, beacon, length, &answer);
         });
         coverage.expect(100);
     }
 
-    /// A shape's record is within the limits and has the shape's length, and the arrays give it back.
+    /// A shape's record is within the limits and has the shape's length, and C's form gives it back.
     #[test]
     fn shapes() {
         let mut random = Random::new(0x54A9E);
@@ -541,11 +558,44 @@ mod tests {
             let record = shape.record(&mut random);
             assert_eq!(record.broken_limits(), [], "{record:?}");
             assert_eq!(frame_length(&record), shape.length(), "{record:?}");
-            assert_eq!(Record::from_flat(&record.to_flat()), Ok(record.clone()));
+            assert_eq!(Record::from_c(&c::Beacon::of_record(&record)), Ok(record.clone()));
             let beacon = record.to_beacon().expect("within the limits");
             assert_eq!(Record::from_beacon(&beacon), record);
-            let mut room = [0; LONGEST_FRAME];
-            assert_eq!(write(&record, &mut room).ok(), (shape.length() <= LONGEST_FRAME).then_some(shape.length()));
+            assert_eq!(c::Beacon::of(&beacon), c::Beacon::of_record(&record));
+            let mut buffer = [0; LONGEST_FRAME];
+            let written = write(&record, &mut buffer).ok();
+            assert_eq!(written, (shape.length() <= LONGEST_FRAME).then_some(shape.length()));
+        }
+    }
+
+    /// Each bit of a record is inverted once, and nothing else.
+    #[test]
+    fn bits() {
+        let blank = c::Beacon::default();
+        let mut seen = Vec::new();
+        for bit in 0..BITS {
+            let mut beacon = blank;
+            flip(&mut beacon, bit);
+            let numbers = beacon.numbers();
+            assert_eq!(numbers.iter().map(|number| number.count_ones()).sum::<u32>(), 1, "bit {bit}");
+            assert!(!seen.contains(&numbers), "bit {bit}");
+            seen.push(numbers);
+            flip(&mut beacon, bit);
+            assert_eq!(beacon, blank, "bit {bit}");
+        }
+    }
+
+    /// The fields of which a record has many are where `MANY` says.
+    #[test]
+    fn fields_of_which_there_are_many() {
+        let mut beacon = c::Beacon::default();
+        beacon.timeslot.timings = [1; TIMINGS];
+        beacon.slotframe.links = [c::Link { timeslot: 2, channel_offset: 2, options: 2 }; MOST_LINKS];
+        beacon.joining.network_id = [3; LONGEST_NETWORK_ID];
+        let numbers = beacon.numbers();
+        for (field, number) in numbers.into_iter().enumerate() {
+            let many = MANY.iter().position(|many| many.contains(&(field as u64)));
+            assert_eq!(number, many.map_or(0, |many| many as u64 + 1), "field {field}");
         }
     }
 }

@@ -1,6 +1,6 @@
 //! The refusal numbers that the reference gives; 0 is done. The C header says what each means.
 
 pub use crate::header::{
-    ADDRESSING, CUT, MISSING_OR_TWICE, NOT_A_BEACON, NO_ROOM, OUTSIDE_LIMITS, SECURED, SHAPE, TABLE_FULL, TOO_LONG,
-    UNKNOWN_NEIGHBOUR,
+    ADDRESSING, BUFFER_TOO_SHORT, CUT, FRAME_TOO_LONG, MISSING_OR_TWICE, OUT_OF_LIMITS, SECURED, SHAPE, TABLE_FULL,
+    UNKNOWN_NEIGHBOUR, WRONG_TYPE,
 };

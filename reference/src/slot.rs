@@ -1,10 +1,9 @@
 //! What a node does in a slot, and on which channel: the reference for the slot decision.
 
-use crate::refusal::OUTSIDE_LIMITS;
+use crate::refusal::OUT_OF_LIMITS;
 
-/// One link of the schedule. Laid out as in C, so that one list can be lent to the reference and to the library.
+/// One link of the schedule.
 #[derive(Clone, Copy, Debug, Default, PartialEq, Eq)]
-#[repr(C)]
 pub struct Link {
     pub timeslot: u16,
     pub offset: u16,
@@ -18,7 +17,6 @@ pub use crate::header::{
 
 /// The answer: `number` is 0 or the refusal number; `place` counts the lent links from 0.
 #[derive(Clone, Copy, Debug, PartialEq, Eq)]
-#[repr(C)]
 pub struct Slot {
     pub number: u8,
     pub action: u8,
@@ -38,14 +36,14 @@ pub fn channel(asn: u64, offset: u16) -> u8 {
 }
 
 /// What to do in the slot `asn`, where `waits` says that a frame waits to be sent.
-pub fn decide(links: &[Link], size: u16, id: u8, asn: u64, waits: bool) -> Slot {
+pub fn decide(links: &[Link], size: u32, id: u32, asn: u64, waits: bool) -> Slot {
     let sleep = Slot { number: 0, action: SLEEP, channel: 0, place: 0 };
-    let refused = Slot { number: OUTSIDE_LIMITS, ..sleep };
+    let refused = Slot { number: OUT_OF_LIMITS, ..sleep };
 
     if size == 0 || links.is_empty() || links.len() > MOST_LINKS || id != 0 || asn > LARGEST_ASN {
         return refused;
     }
-    if links.iter().any(|link| link.timeslot >= size) {
+    if links.iter().any(|link| u32::from(link.timeslot) >= size) {
         return refused;
     }
 

@@ -16,6 +16,8 @@ pub const MOST_CHANGES_WITHOUT_RISES: usize = 101;
 #[derive(Clone, Copy, Debug, PartialEq, Eq)]
 pub struct Held {
     pub parent: Option<u64>,
+    /// 0 without a parent.
+    pub rank: u16,
     /// None without a parent, and for one that never acknowledged.
     pub cost: Option<i128>,
     pub eligible: bool,
@@ -26,6 +28,7 @@ impl Held {
         let place = table.held_place();
         Held {
             parent: table.held,
+            rank: place.map_or(0, |place| place.rank),
             cost: place.and_then(|place| place.cost()),
             eligible: place.is_some_and(|place| place.eligible()),
         }

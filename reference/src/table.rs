@@ -1,11 +1,7 @@
 //! The neighbour table and its calls: the reference for advertise, report, forget and evaluate.
 
-use crate::header::{
-    NEIGHBOUR_ACKNOWLEDGED, NEIGHBOUR_ATTEMPTS, NEIGHBOUR_ID, NEIGHBOUR_IN_USE, NEIGHBOUR_RANK, PARENT_ID,
-    PARENT_PRESENT,
-};
 use crate::metric;
-use crate::refusal::{OUTSIDE_LIMITS, TABLE_FULL, UNKNOWN_NEIGHBOUR};
+use crate::refusal::{OUT_OF_LIMITS, TABLE_FULL, UNKNOWN_NEIGHBOUR};
 
 pub use crate::header::NEIGHBOURS as PLACES;
 
@@ -95,7 +91,7 @@ impl Table {
     pub fn advertise(&self, identifier: u64, rank: u16) -> (u8, Table) {
         let mut table = self.clone();
         if !self.sound() {
-            return (OUTSIDE_LIMITS, table);
+            return (OUT_OF_LIMITS, table);
         }
         if let Some(index) = self.find(identifier) {
             table.places[index].rank = rank;
@@ -111,7 +107,7 @@ impl Table {
     pub fn report(&self, identifier: u64, attempts: u64, acknowledged: bool) -> (u8, Table) {
         let mut table = self.clone();
         if !self.sound() || !(1..=4).contains(&attempts) {
-            return (OUTSIDE_LIMITS, table);
+            return (OUT_OF_LIMITS, table);
         }
         let Some(index) = self.find(identifier) else {
             return (UNKNOWN_NEIGHBOUR, table);
@@ -129,7 +125,7 @@ impl Table {
     pub fn forget(&self, identifier: u64) -> (u8, Table) {
         let mut table = self.clone();
         if !self.sound() {
-            return (OUTSIDE_LIMITS, table);
+            return (OUT_OF_LIMITS, table);
         }
         let Some(index) = self.find(identifier) else {
             return (UNKNOWN_NEIGHBOUR, table);
@@ -145,7 +141,7 @@ impl Table {
     pub fn evaluate(&self) -> (u8, Table, u16) {
         let mut table = self.clone();
         if !self.sound() {
-            return (OUTSIDE_LIMITS, table, NO_RANK);
+            return (OUT_OF_LIMITS, table, NO_RANK);
         }
         let Some(best) = self.best() else {
             table.held = None;
@@ -179,75 +175,6 @@ impl Table {
             }
         };
         Answer { number, table, own_rank }
-    }
-}
-
-/// How many numbers a place and a table have when they are laid out flat.
-pub use crate::header::{NEIGHBOUR_STRIDE as PLACE_NUMBERS, TABLE_NUMBERS};
-
-/// A table laid out flat.
-pub type Numbers = [u64; TABLE_NUMBERS];
-
-impl Table {
-    /// The table as numbers: of each place its mark (1 in use), identifier, rank, attempts and acknowledged; then the
-    /// mark of a held parent and its identifier, both 0 when there is none.
-    pub fn to_numbers(&self) -> Numbers {
-        let mut numbers = [0; TABLE_NUMBERS];
-        for (row, place) in numbers.chunks_exact_mut(PLACE_NUMBERS).zip(&self.places) {
-            row[NEIGHBOUR_IN_USE] = u64::from(place.used);
-            row[NEIGHBOUR_ID] = place.identifier;
-            row[NEIGHBOUR_RANK] = u64::from(place.rank);
-            row[NEIGHBOUR_ATTEMPTS] = place.attempts;
-            row[NEIGHBOUR_ACKNOWLEDGED] = place.acknowledged;
-        }
-        if let Some(held) = self.held {
-            numbers[PARENT_PRESENT] = 1;
-            numbers[PARENT_ID] = held;
-        }
-        numbers
-    }
-
-    /// The table that these numbers lay out; none if they lay out no table (too few or too many, a mark over 1, a rank
-    /// over 16 bits, an identifier beside the mark of no parent). A counter over 16 bits needs no test: such a table is
-    /// not sound.
-    pub fn from_numbers(numbers: &[u64]) -> Option<Table> {
-        if numbers.len() != TABLE_NUMBERS {
-            return None;
-        }
-        let mark = |number: u64| match number {
-            0 => Some(false),
-            1 => Some(true),
-            _ => None,
-        };
-        let mut table = Table::default();
-        for (row, place) in numbers.chunks_exact(PLACE_NUMBERS).zip(&mut table.places) {
-            *place = Place {
-                used: mark(row[NEIGHBOUR_IN_USE])?,
-                identifier: row[NEIGHBOUR_ID],
-                rank: u16::try_from(row[NEIGHBOUR_RANK]).ok()?,
-                attempts: row[NEIGHBOUR_ATTEMPTS],
-                acknowledged: row[NEIGHBOUR_ACKNOWLEDGED],
-            };
-        }
-        table.held = match (mark(numbers[PARENT_PRESENT])?, numbers[PARENT_ID]) {
-            (true, held) => Some(held),
-            (false, 0) => None,
-            (false, _) => return None,
-        };
-        Some(table)
-    }
-}
-
-impl Call {
-    /// The call as numbers: 0 advertise, 1 report, 2 forget, 3 evaluate; the identifier; the rank or the attempts;
-    /// whether acknowledged. What a call does not take is 0.
-    pub fn to_numbers(&self) -> [u64; 4] {
-        match *self {
-            Call::Advertise { identifier, rank } => [0, identifier, u64::from(rank), 0],
-            Call::Report { identifier, attempts, acknowledged } => [1, identifier, attempts, u64::from(acknowledged)],
-            Call::Forget { identifier } => [2, identifier, 0, 0],
-            Call::Evaluate => [3, 0, 0, 0],
-        }
     }
 }
 
@@ -409,21 +336,6 @@ mod tests {
                 let own_rank = if call == Call::Evaluate { Some(65535) } else { None };
                 assert_eq!(given.call(&call), Answer { number: 8, table: given.clone(), own_rank }, "{name}, {call:?}");
             }
-        }
-    }
-
-    #[test]
-    fn numbers_lay_out_a_table() {
-        let given = Table { held: Some(u64::MAX), ..table(&[place(u64::MAX, 65535, 300, 7)], None) };
-        let numbers = given.to_numbers();
-        assert_eq!(numbers[..6], [1, u64::MAX, 65535, 300, 7, 0]);
-        assert_eq!(numbers[PARENT_PRESENT..], [1, u64::MAX]);
-        assert_eq!(Table::from_numbers(&numbers), Some(given));
-        assert_eq!(Table::from_numbers(&Table::default().to_numbers()), Some(Table::default()));
-        for (index, number) in [(155, 2), (157, 65536), (PARENT_PRESENT, 2), (PARENT_PRESENT, 0)] {
-            let mut wrong = numbers;
-            wrong[index] = number;
-            assert_eq!(Table::from_numbers(&wrong), None, "number {index} is {number}");
         }
     }
 }

@@ -1,19 +1,14 @@
 //! Writing Enhanced Beacon frames: the reference for the writer.
 //!
-//! Writing has two halves. The first makes every check and stores nothing; the second puts the fields into the room one
+//! Writing has two halves. The first makes every check and stores nothing; the second puts the fields into the buffer one
 //! behind the other, where nothing can go wrong any more.
 
-use crate::flat::{
-    Flat, ASN, BLANK, HANDLE, HOPPING, JOINING_PRESENT, JOIN_METRIC, LINK_COUNT, NETWORK_LENGTH, NUMBERS, P, PAN,
-    PAN_PRIORITY, PROXY, PROXY_PRIORITY, R, RANK_PRIORITY, SEQUENCE, SEQUENCE_PRESENT, SIZE, SOURCE, SOURCE_KIND,
-    TEMPLATE, TIMINGS_PRESENT,
-};
 use crate::frame::{
     Address, Beacon, JoiningInformation, EXTENDED, HEADER_TERMINATION_1, IETF, JOINING, LONGEST_FRAME,
     LONGEST_NETWORK_ID, LONG_HOPPING, MLME, P_FLAG, R_FLAG, SHORT, SHORT_SLOTFRAME, SHORT_SYNCHRONIZATION,
     SHORT_TIMESLOT, TIMINGS,
 };
-use crate::refusal::{NO_ROOM, OUTSIDE_LIMITS, TOO_LONG};
+use crate::refusal::{BUFFER_TOO_SHORT, FRAME_TOO_LONG, OUT_OF_LIMITS};
 use crate::slot::{Link, LARGEST_ASN, MOST_LINKS};
 
 /// How many of the timings have 2 bytes in every form.
@@ -23,7 +18,7 @@ pub const LARGEST_LAST_TIMING: u32 = (1 << 24) - 1;
 pub const LARGEST_PROXY_PRIORITY: u8 = (1 << 7) - 1;
 pub const LARGEST_RANK_PRIORITY: u16 = (1 << 12) - 1;
 
-/// A record that is lent to be written, within the limits or not. With `timed` the template ID comes with timings; the
+/// A record to be written, within the limits or not. With `timed` the template ID comes with timings; the
 /// first `count` links are used.
 #[derive(Clone, Debug, PartialEq, Eq)]
 pub struct Record {
@@ -121,29 +116,27 @@ limits! {
 /// Why a record is not written.
 #[derive(Clone, Copy, Debug, PartialEq, Eq)]
 pub enum Refusal {
-    /// Of the four arrays only: they hold no record.
+    /// Of a record in C's form only.
     Misfit(Misfit),
     Limit(Limit),
     FrameTooLong,
-    NoRoom,
+    BufferTooShort,
 }
 
 impl Refusal {
     /// The refusal number.
     pub fn number(self) -> u8 {
         match self {
-            Refusal::Misfit(_) | Refusal::Limit(_) => OUTSIDE_LIMITS,
-            Refusal::FrameTooLong => TOO_LONG,
-            Refusal::NoRoom => NO_ROOM,
+            Refusal::Misfit(_) | Refusal::Limit(_) => OUT_OF_LIMITS,
+            Refusal::FrameTooLong => FRAME_TOO_LONG,
+            Refusal::BufferTooShort => BUFFER_TOO_SHORT,
         }
     }
 }
 
-/// A number of the four arrays that does not fit its field.
+/// Why a record in C's form is no record.
 #[derive(Clone, Copy, Debug, PartialEq, Eq, PartialOrd, Ord)]
 pub enum Misfit {
-    /// The one at this place of the numbers is over the field's largest.
-    Number(usize),
     /// A sequence number, not 0, where there is none.
     AbsentSequence,
     /// A short source over 65535.
@@ -152,41 +145,22 @@ pub enum Misfit {
     Options,
 }
 
-/// The largest number of each field; 1 for a flag.
-pub const LARGEST: [u64; NUMBERS] = {
-    let mut largest = [0xFF; NUMBERS];
-    largest[SEQUENCE_PRESENT] = 1;
-    largest[PAN] = 0xFFFF;
-    largest[SOURCE_KIND] = 1;
-    largest[SOURCE] = u64::MAX;
-    largest[ASN] = u64::MAX;
-    largest[TIMINGS_PRESENT] = 1;
-    largest[SIZE] = 0xFFFF;
-    largest[JOINING_PRESENT] = 1;
-    largest[R] = 1;
-    largest[P] = 1;
-    largest[RANK_PRIORITY] = 0xFFFF;
-    largest[PROXY] = u64::MAX;
-    largest
-};
+impl Misfit {
+    pub const ALL: [Misfit; 3] = [Misfit::AbsentSequence, Misfit::ShortSource, Misfit::Options];
+}
 
-/// Writes a record's frame at the start of a room; gives its length. A refusal leaves the room as it was.
-pub fn write(record: &Record, room: &mut [u8]) -> Result<usize, Refusal> {
+/// Writes a record's frame at the start of a buffer; gives its length. A refusal leaves the buffer as it was.
+pub fn write(record: &Record, buffer: &mut [u8]) -> Result<usize, Refusal> {
     keep_limits(record)?;
     let length = frame_length(record);
     if length > LONGEST_FRAME {
         return Err(Refusal::FrameTooLong);
     }
-    let Some(frame) = room.get_mut(..length) else {
-        return Err(Refusal::NoRoom);
+    let Some(frame) = buffer.get_mut(..length) else {
+        return Err(Refusal::BufferTooShort);
     };
     put_frame(record, Rest(frame));
     Ok(length)
-}
-
-/// The same for a record in four arrays.
-pub fn write_flat(flat: &Flat, room: &mut [u8]) -> Result<usize, Refusal> {
-    write(&Record::from_flat(flat).map_err(Refusal::Misfit)?, room)
 }
 
 /// The length of the frame of a record within the limits.
@@ -430,96 +404,5 @@ impl Record {
                 network_length: joining.network_length.into(),
             }),
         })
-    }
-
-    /// The record in the four arrays, or what in them does not fit.
-    pub fn from_flat(flat: &Flat) -> Result<Record, Misfit> {
-        let numbers = &flat.numbers;
-        for (place, (number, largest)) in numbers.iter().zip(LARGEST).enumerate() {
-            if *number > largest {
-                return Err(Misfit::Number(place));
-            }
-        }
-        let flag = |place: usize| numbers[place] == 1;
-        // What was not over its largest keeps its value in the narrower type.
-        let byte = |place: usize| numbers[place] as u8;
-        let two_bytes = |place: usize| numbers[place] as u16;
-
-        let sequence = flag(SEQUENCE_PRESENT).then(|| byte(SEQUENCE));
-        if sequence.is_none() && numbers[SEQUENCE] != 0 {
-            return Err(Misfit::AbsentSequence);
-        }
-        let source = match (flag(SOURCE_KIND), u16::try_from(numbers[SOURCE])) {
-            (true, _) => Address::Extended(numbers[SOURCE]),
-            (false, Ok(address)) => Address::Short(address),
-            (false, Err(_)) => return Err(Misfit::ShortSource),
-        };
-        let mut links = [Link::default(); MOST_LINKS];
-        for (link, &[timeslot, offset, options]) in links.iter_mut().zip(flat.links.as_chunks().0) {
-            let Ok(options) = u8::try_from(options) else {
-                return Err(Misfit::Options);
-            };
-            *link = Link { timeslot, offset, options };
-        }
-        Ok(Record {
-            sequence,
-            pan: two_bytes(PAN),
-            source,
-            asn: numbers[ASN],
-            join_metric: byte(JOIN_METRIC),
-            template: byte(TEMPLATE),
-            timed: flag(TIMINGS_PRESENT),
-            timings: flat.timings,
-            hopping: byte(HOPPING),
-            handle: byte(HANDLE),
-            size: two_bytes(SIZE),
-            count: byte(LINK_COUNT),
-            links,
-            joining: Joining {
-                present: flag(JOINING_PRESENT),
-                router: flag(R),
-                proxied: flag(P),
-                proxy_priority: byte(PROXY_PRIORITY),
-                rank_priority: two_bytes(RANK_PRIORITY),
-                pan_priority: byte(PAN_PRIORITY),
-                proxy: numbers[PROXY],
-                network_length: byte(NETWORK_LENGTH),
-                network: flat.network,
-            },
-        })
-    }
-
-    /// The four arrays that hold the record.
-    pub fn to_flat(&self) -> Flat {
-        let joining = &self.joining;
-        let mut flat = Flat { timings: self.timings, network: joining.network, ..BLANK };
-        let numbers = &mut flat.numbers;
-        numbers[SEQUENCE_PRESENT] = self.sequence.is_some().into();
-        numbers[SEQUENCE] = self.sequence.unwrap_or(0).into();
-        numbers[PAN] = self.pan.into();
-        (numbers[SOURCE_KIND], numbers[SOURCE]) = match self.source {
-            Address::Short(address) => (0, address.into()),
-            Address::Extended(address) => (1, address),
-        };
-        numbers[ASN] = self.asn;
-        numbers[JOIN_METRIC] = self.join_metric.into();
-        numbers[TEMPLATE] = self.template.into();
-        numbers[TIMINGS_PRESENT] = self.timed.into();
-        numbers[HOPPING] = self.hopping.into();
-        numbers[HANDLE] = self.handle.into();
-        numbers[SIZE] = self.size.into();
-        numbers[LINK_COUNT] = self.count.into();
-        numbers[JOINING_PRESENT] = joining.present.into();
-        numbers[R] = joining.router.into();
-        numbers[P] = joining.proxied.into();
-        numbers[PROXY_PRIORITY] = joining.proxy_priority.into();
-        numbers[RANK_PRIORITY] = joining.rank_priority.into();
-        numbers[PAN_PRIORITY] = joining.pan_priority.into();
-        numbers[PROXY] = joining.proxy;
-        numbers[NETWORK_LENGTH] = joining.network_length.into();
-        for (places, link) in flat.links.as_chunks_mut().0.iter_mut().zip(&self.links) {
-            *places = [link.timeslot, link.offset, link.options.into()];
-        }
-        flat
     }
 }

@@ -57,40 +57,87 @@ fn quoted(text: &str) -> BTreeSet<&str> {
     text.lines().flat_map(|line| line.split('`').skip(1).step_by(2)).collect()
 }
 
-/// Whether a name begins at this place of a text and ends with it.
+/// Whether a text has this name as a word.
 fn has_word(text: &str, word: &str) -> bool {
     let part = |letter: char| letter.is_alphanumeric() || letter == '_';
     text.match_indices(word).any(|(at, _)| !text[..at].ends_with(part) && !text[at + word.len()..].starts_with(part))
 }
 
-struct PublicFunction {
+/// A function of a crate, by its path from the crate's root on: `module::name`, or `name` in the root itself.
+struct Function {
     of: String,
-    name: String,
+    path: String,
+    is_public: bool,
     /// From its name to its body.
     signature: String,
+    body: String,
 }
 
-impl PublicFunction {
-    fn path(&self) -> String {
-        format!("{}::{}", self.of, self.name)
+impl Function {
+    /// `crate::module::name`, as the documents write it.
+    fn full_path(&self) -> String {
+        format!("{}::{}", self.of, self.path)
+    }
+
+    fn name(&self) -> &str {
+        self.path.rsplit("::").next().unwrap_or(&self.path)
+    }
+
+    /// Whether its text has this piece.
+    fn has(&self, piece: &str) -> bool {
+        self.signature.contains(piece) || self.body.contains(piece)
     }
 }
 
-/// Every public function of every crate; a program's own are none.
-fn public_functions() -> Vec<PublicFunction> {
+/// Every function of every crate; a program's own are none.
+fn functions() -> Vec<Function> {
     let mut found = Vec::new();
-    for (of, path) in crate_files("src", "rt") {
+    for (of, path) in crate_files("src", "rt").into_iter().filter(|(_, path)| stem(path) != "main") {
         let text = read(&path);
-        for start in ["\npub fn ", "\npub extern \"C\" fn "] {
-            for (at, _) in text.match_indices(start) {
-                let rest = &text[at + start.len()..];
-                let name = rest.split('(').next().expect("a split has a first part").to_string();
-                let end = rest.find("\n{").unwrap_or_else(|| panic!("{of}::{name} has no body"));
-                found.push(PublicFunction { of: of.clone(), name, signature: rest[..end].to_string() });
+        let module = stem(&path);
+        for (at, _) in text.match_indices("fn ") {
+            let line_start = text[..at].rfind('\n').map_or(0, |end| end + 1);
+            let before = &text[line_start..at];
+            if !["", "pub ", "pub(crate) ", "pub extern \"C\" "].contains(&before) {
+                continue;
             }
+            let rest = &text[at + "fn ".len()..];
+            let name = rest.split('(').next().expect("a split has a first part");
+            let body = rest.find("\n{").unwrap_or_else(|| panic!("{of}::{name} has no body"));
+            let end = body + rest[body..].find("\n}").or(rest[body..].find("{}")).expect("a body ends");
+            found.push(Function {
+                of: of.clone(),
+                path: if module == "lib" { name.to_string() } else { format!("{module}::{name}") },
+                is_public: before.starts_with("pub ") || before.starts_with("pub extern"),
+                signature: rest[..body].to_string(),
+                body: rest[body..end].to_string(),
+            });
         }
     }
+    found
+}
+
+/// Every public function of every crate.
+fn public_functions() -> Vec<Function> {
+    let found: Vec<Function> = functions().into_iter().filter(|function| function.is_public).collect();
     assert!(found.len() > 50, "only {} public functions were found", found.len());
+    found
+}
+
+/// The functions of a crate that a function's answer is made by: itself, and those of its crate that it calls, directly or through others.
+fn made_by<'a>(function: &'a Function, all: &'a [Function]) -> Vec<&'a Function> {
+    let mut found = vec![function];
+    let mut next = 0;
+    while next < found.len() {
+        let called = called(&found[next].body);
+        let more = all.iter().filter(|other| other.of == function.of && called.contains(other.name()));
+        for other in more.collect::<Vec<_>>() {
+            if !found.iter().any(|known| known.path == other.path) {
+                found.push(other);
+            }
+        }
+        next += 1;
+    }
     found
 }
 
@@ -103,10 +150,10 @@ fn expect_none(what: &str, wrong: Vec<String>, tried: usize, at_least: usize) {
 #[test]
 fn public_functions_promise_and_ask_nothing() {
     let functions = public_functions();
-    let fits = |function: &&PublicFunction| {
+    let fits = |function: &&Function| {
         function.signature.contains("\n    ensures") && !function.signature.contains("requires")
     };
-    let wrong = functions.iter().filter(|function| !fits(function)).map(PublicFunction::path).collect();
+    let wrong = functions.iter().filter(|function| !fits(function)).map(Function::full_path).collect();
     expect_none("public functions without an ensures, or with a requires", wrong, functions.len(), 50);
 }
 
@@ -115,28 +162,41 @@ fn public_functions_are_claimed() {
     let claims = document("docs/CLAIMS.md");
     let quoted = quoted(&claims);
     let functions = public_functions();
-    let claimed = |function: &&PublicFunction| {
-        let names = |word: &&str| {
-            word.rsplit("::").next() == Some(&function.name) && (!word.contains("::") || has_word(word, &function.of))
-        };
-        quoted.iter().any(names)
-    };
-    let wrong = functions.iter().filter(|function| !claimed(function)).map(PublicFunction::path).collect();
-    expect_none("public functions that CLAIMS.md does not name", wrong, functions.len(), 50);
+    let claimed = |function: &&Function| quoted.contains(function.full_path().as_str());
+    let wrong = functions.iter().filter(|function| !claimed(function)).map(Function::full_path).collect();
+    expect_none("public functions that CLAIMS.md does not name by their full path", wrong, functions.len(), 50);
 }
 
-/// The wrong programs with their crates: an edit is one, named after its file, or has several, named in lines of its own.
-fn wrong_programs() -> Vec<(String, String)> {
+/// A wrong program, or a wrong definition or claim, that the prover must refuse.
+struct Wrong {
+    of: String,
+    name: String,
+    /// The function whose text is changed; a definition or a claim has none.
+    function: Option<String>,
+}
+
+impl Wrong {
+    /// `crate/name`, as the documents write it.
+    fn full_path(&self) -> String {
+        format!("{}/{}", self.of, self.name)
+    }
+}
+
+/// What every must-fail edit says is wrong: lines `wrong: NAME, in FUNCTION (what)` or `wrong: NAME (what)`.
+fn wrong_programs() -> Vec<Wrong> {
     let mut found = Vec::new();
     for (of, path) in crate_files("must-fail", "edit") {
         let text = read(&path);
-        let several: Vec<&str> =
-            text.lines().filter_map(|line| line.strip_prefix("wrong: ")?.split(", in ").next()).collect();
-        if several.is_empty() {
-            found.push((of, stem(&path)));
-        } else {
-            found.extend(several.iter().map(|name| (of.clone(), name.to_string())));
+        let before = found.len();
+        for line in text.lines().filter_map(|line| line.strip_prefix("wrong: ")) {
+            let (said, _) = line.split_once(" (").unwrap_or_else(|| panic!("{}: what is wrong in {line}?", path.display()));
+            let (name, function) = match said.split_once(", in ") {
+                Some((name, function)) => (name, Some(function.to_string())),
+                None => (said, None),
+            };
+            found.push(Wrong { of: of.clone(), name: name.to_string(), function });
         }
+        assert!(found.len() > before, "{} does not say what is wrong", path.display());
     }
     found
 }
@@ -145,13 +205,44 @@ fn wrong_programs() -> Vec<(String, String)> {
 fn wrong_programs_are_claimed() {
     let claims = document("docs/CLAIMS.md");
     let quoted = quoted(&claims);
-    let names = wrong_programs();
-    let claimed = |of: &str, name: &str| quoted.contains(name) || quoted.contains(format!("{of}/{name}").as_str());
-    let wrong = names.iter().filter(|(of, name)| !claimed(of, name)).map(|(of, name)| format!("{of}/{name}")).collect();
-    expect_none("edits that CLAIMS.md does not name", wrong, names.len(), 100);
+    let all = wrong_programs();
+    let claimed = |wrong: &&Wrong| quoted.contains(wrong.full_path().as_str());
+    let wrong = all.iter().filter(|wrong| !claimed(wrong)).map(Wrong::full_path).collect();
+    expect_none("wrong programs that CLAIMS.md does not name by their full path", wrong, all.len(), 200);
 }
 
-/// The function whose signature or contract stands at this place of a file, if one does.
+#[test]
+fn wrong_programs_have_names_of_their_own() {
+    let all = wrong_programs();
+    let mut seen = BTreeSet::new();
+    let wrong = all.iter().filter(|wrong| !seen.insert(wrong.full_path())).map(Wrong::full_path).collect();
+    expect_none("names that two wrong programs of a crate have", wrong, all.len(), 200);
+}
+
+/// The function that a wrong program names is the one whose text is changed.
+#[test]
+fn wrong_programs_name_their_function() {
+    let functions = functions();
+    let (mut wrong, mut tried) = (Vec::new(), 0);
+    for (of, path) in crate_files("must-fail", "edit") {
+        let text = read(&path);
+        let mut named = None;
+        for line in text.lines() {
+            if let Some(said) = line.strip_prefix("wrong: ") {
+                named = said.split_once(" (").and_then(|(said, _)| said.split_once(", in "));
+            } else if let (Some((name, function)), Some(old)) = (named, line.strip_prefix("old: ")) {
+                tried += 1;
+                let mut ours = functions.iter().filter(|ours| ours.of == of && ours.path == function);
+                if !ours.any(|ours| ours.has(old.trim())) {
+                    wrong.push(format!("{of}/{name}, in {function}"));
+                }
+            }
+        }
+    }
+    expect_none("wrong programs whose text is not that of the function they name", wrong, tried, 150);
+}
+
+/// The function whose signature or contract stands at this position of a file, if one does.
 fn contract_at(code: &str, at: usize) -> Option<&str> {
     let start = code[..at].rfind("fn ")? + "fn ".len();
     let end = start + code[start..].find("\n{")?;
@@ -189,33 +280,75 @@ fn changed_contracts_have_no_callers() {
     expect_none("contracts that are changed together with other functions, and called", wrong, tried, 100);
 }
 
-/// Two wrong programs for each public function: a row of the table has at least twice as many edits as functions.
+/// The rows of the tables of public functions in CLAIMS.md, each with the functions of its first column and the wrong programs of its last.
+fn function_rows(claims: &str) -> Vec<(Vec<&str>, Vec<&str>)> {
+    let rows = claims.lines().filter(|line| line.starts_with("| `"));
+    let cells = |row: &'_ str| row.trim_matches([' ', '|']).split(" | ").map(str::to_string).collect::<Vec<_>>();
+    let mut found = Vec::new();
+    for row in rows {
+        let cells = cells(row);
+        let (first, last) = (&cells[0], &cells[cells.len() - 1]);
+        let at = |cell: &str| row.find(cell).expect("a row has its cells");
+        let (first, last) = (&row[at(first)..][..first.len()], &row[at(last)..][..last.len()]);
+        let functions: Vec<&str> = quoted(first).into_iter().filter(|word| word.contains("::")).collect();
+        if !functions.is_empty() {
+            found.push((functions, quoted(last).into_iter().filter(|word| word.contains('/')).collect()));
+        }
+    }
+    found
+}
+
+/// Each public function has two wrong programs at least, each in the function itself or in one of its crate that its answer is made by; and
+/// its row of CLAIMS.md has these alone. A function that cites theorems, or gives a constant of the definitions, has wrong claims and
+/// definitions of its crate too.
 #[test]
 fn functions_have_two_wrong_programs() {
     let claims = document("docs/CLAIMS.md");
-    let table = claims.split("\n## ").find(|part| part.starts_with("Public functions")).expect("such a section");
-    let rows: Vec<&str> = table.lines().filter(|line| line.starts_with("| `")).collect();
-    let enough = |row: &&&str| {
-        let cells: Vec<&str> = row.trim_matches([' ', '|']).split(" | ").collect();
-        let (first, last) = (cells[0], cells[cells.len() - 1]);
-        quoted(last).len() >= 2 * quoted(first).len()
-    };
-    let wrong = rows.iter().filter(|row| !enough(row)).map(|row| row.to_string()).collect();
-    expect_none("functions with fewer than two wrong programs", wrong, rows.len(), 30);
+    let (all, wrongs) = (functions(), wrong_programs());
+    let rows = function_rows(&claims);
+    let mut bad = Vec::new();
+    for function in all.iter().filter(|function| function.is_public) {
+        let path = function.full_path();
+        let makers = made_by(function, &all);
+        let shuts_out = |wrong: &&Wrong| {
+            wrong.of == function.of
+                && match &wrong.function {
+                    Some(named) => makers.iter().any(|maker| maker.path == *named),
+                    None => function.of.ends_with("_spec"),
+                }
+        };
+        let ours: BTreeSet<String> = wrongs.iter().filter(shuts_out).map(Wrong::full_path).collect();
+        let named: Vec<&str> = rows
+            .iter()
+            .filter(|(functions, _)| functions.contains(&path.as_str()))
+            .flat_map(|(_, wrong)| wrong.iter().copied())
+            .collect();
+        if named.len() < 2 {
+            bad.push(format!("{path}: {} wrong programs in its row", named.len()));
+        }
+        bad.extend(named.iter().filter(|wrong| !ours.contains(**wrong)).map(|wrong| format!("{path}: {wrong} is none of its own")));
+    }
+    expect_none("functions without two wrong programs of their own", bad, all.len(), 100);
 }
 
-/// In the table of public functions the last column has edits alone.
+/// Whatever CLAIMS.md names by a full path is there.
 #[test]
-fn claimed_wrong_programs_are_there() {
+fn claimed_paths_are_there() {
     let claims = document("docs/CLAIMS.md");
-    let all: BTreeSet<String> = wrong_programs().into_iter().map(|(_, name)| name).collect();
-    let table = claims.split("\n## ").find(|part| part.starts_with("Public functions")).expect("such a section");
-    let rows: Vec<&str> = table.lines().filter(|line| line.starts_with("| `")).collect();
-    let last = |row: &&'_ str| row.trim_end_matches([' ', '|']).rsplit(" | ").next().unwrap_or_default().to_string();
-    let cells: Vec<String> = rows.iter().map(last).collect();
-    let named = cells.iter().flat_map(|cell| quoted(cell));
-    let wrong = named.filter(|word| !all.contains(*word)).map(str::to_string).collect();
-    expect_none("edits that CLAIMS.md names and that are not there", wrong, rows.len(), 30);
+    let crates = crates();
+    let known: BTreeSet<String> = functions()
+        .iter()
+        .map(Function::full_path)
+        .chain(wrong_programs().iter().map(Wrong::full_path))
+        .collect();
+    let is_path = |word: &&&str| {
+        let of = word.split(['/', ':']).next().unwrap_or_default();
+        crates.iter().any(|name| name == of) && *word != &of && !word.contains([' ', '*', '.'])
+    };
+    let words = quoted(&claims);
+    let named: Vec<&&str> = words.iter().filter(is_path).collect();
+    let wrong = named.iter().filter(|word| !known.contains(****word)).map(|word| word.to_string()).collect();
+    expect_none("paths that CLAIMS.md names and that are not there", wrong, named.len(), 200);
 }
 
 /// What a line of definitions says of a claim, without the name that it defines, imports and comments.
@@ -287,14 +420,15 @@ fn named_files_are_there() {
     expect_none("files that the documents name and that are not there", wrong, named.len(), 20);
 }
 
+/// README.md has every crate, and every document.
 #[test]
-fn crates_are_described() {
-    let (readme, proving) = (document("README.md"), document("docs/PROVING.md"));
+fn crates_and_documents_are_listed() {
+    let readme = document("README.md");
     let quoted = quoted(&readme);
-    let crates = crates();
-    let described = |name: &&String| quoted.contains(name.as_str()) && proving.contains(&format!("\n| `{name}` |"));
-    let wrong = crates.iter().filter(|name| !described(name)).cloned().collect();
-    expect_none("crates that README.md does not name, or PROVING.md has no sizes of", wrong, crates.len(), 30);
+    let documents = files(&root().join("docs"), "md").into_iter().map(|path| format!("docs/{}.md", stem(&path)));
+    let expected: Vec<String> = crates().into_iter().chain(documents).collect();
+    let wrong = expected.iter().filter(|name| !quoted.contains(name.as_str())).cloned().collect();
+    expect_none("crates and documents that README.md does not name", wrong, expected.len(), 40);
 }
 
 /// The names behind which a text has an opening bracket.
@@ -312,7 +446,7 @@ fn exported_functions_are_declared() {
     let functions = public_functions();
     let exported: BTreeSet<&str> = functions
         .iter()
-        .map(|function| function.name.as_str())
+        .map(Function::name)
         .filter(|name| name.starts_with("tesolvagna_"))
         .collect();
     assert_eq!(declared, exported);

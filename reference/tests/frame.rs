@@ -1,9 +1,9 @@
 //! Reading beacons: the reference on frames laid out by hand, and the example frames. Needs no static library.
 
-use reference::flat::{self, BLANK};
 use reference::frame::{self, Address, Beacon, Check, JoiningInformation};
+use reference::interface as c;
 use reference::slot::Link;
-use reference::worked;
+use reference::{convert, direct, worked};
 use std::fs;
 use std::path::Path;
 
@@ -26,9 +26,7 @@ fn worked_frames() {
             assert_eq!(network.as_ptr(), worked.frame.as_ptr(), "{}: the empty part at the start", worked.name);
         }
 
-        let (mut record, mut expected) = (BLANK, BLANK);
-        let number = flat::lay_out(&worked.answer, &mut expected);
-        assert_eq!((flat::read(&worked.frame, &mut record), record), (number, expected), "{}", worked.name);
+        assert_eq!(direct::read(&worked.frame), c::Reading::of(&worked.answer), "{}", worked.name);
     }
 }
 
@@ -45,40 +43,35 @@ fn worked_frames_cover_the_checks() {
     assert_eq!(names.len(), worked.len(), "a name stands twice");
 }
 
-/// The layout in four arrays, number by number, for a record that has everything.
+/// C's record, field by field, for a frame that has everything.
 #[test]
-fn layout() {
-    let frame = example("joining");
-    let mut record = BLANK;
-    assert_eq!(flat::lay_out(&frame::read(&frame), &mut record), 0);
-    let numbers = [
-        1,
-        0x5C,
-        0xABCD,
-        1,
-        0x0200_00FF_FE00_002A,
-        0x01_0203_0405,
-        3,
-        1,
-        1,
-        0,
-        6,
-        101,
-        2,
-        1,
-        1,
-        1,
-        16,
-        0x203,
-        4,
-        0x0200_00FF_FE00_0001,
-        8,
-    ];
-    assert_eq!(record.numbers, numbers);
-    assert_eq!(record.timings, JOINING_TIMINGS);
-    assert_eq!(record.links[..7], [0, 0, 0x0F, 7, 2, 0x02, 0]);
-    assert!(record.links[6..].iter().all(|number| *number == 0));
-    assert_eq!(&record.network, b"studio-1\0\0\0\0\0\0\0\0");
+fn record_in_the_form_of_c() {
+    let link = |timeslot, channel_offset, options| c::Link { timeslot, channel_offset, options };
+    let mut links = [c::Link::default(); 16];
+    (links[0], links[1]) = (link(0, 0, 0x0F), link(7, 2, 0x02));
+    let beacon = c::Beacon {
+        has_sequence_number: true,
+        sequence_number: 0x5C,
+        pan_id: 0xABCD,
+        source_is_extended: true,
+        source: 0x0200_00FF_FE00_002A,
+        synchronization: c::Synchronization { asn: 0x01_0203_0405, join_metric: 3 },
+        timeslot: c::Timeslot { template_id: 1, has_timings: true, timings: JOINING_TIMINGS },
+        hopping_sequence_id: 0,
+        slotframe: c::Slotframe { handle: 6, size: 101, link_count: 2, links },
+        joining: c::Joining {
+            present: true,
+            router: true,
+            proxied: true,
+            proxy_priority: 16,
+            rank_priority: 0x203,
+            pan_priority: 4,
+            proxy_address: 0x0200_00FF_FE00_0001,
+            network_id_length: 8,
+            network_id: *b"studio-1\0\0\0\0\0\0\0\0",
+        },
+    };
+    assert_eq!(convert::read(&example("joining")), c::Reading { number: 0, beacon });
 }
 
 const JOINING_TIMINGS: [u32; 12] = [1800, 128, 2120, 1020, 800, 1000, 2200, 400, 192, 2400, 70_000, 120_000];

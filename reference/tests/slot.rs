@@ -1,18 +1,24 @@
 //! Slot and channel decision: the static library against the reference, on random schedules and on fixed values.
 
 use reference::coverage::Counts;
-use reference::library;
+use reference::header::{LISTEN, MOST_LINKS, OPTION_RECEIVE, OPTION_TRANSMIT, SLEEP, TRANSMIT};
+use reference::interface::{Link, Numbers, Slot};
 use reference::random::Random;
-use reference::slot::{self, Link, Slot};
-use reference::slot::{HOPPING_SEQUENCE, LARGEST_ASN, LISTEN, MOST_LINKS, RECEIVE_BIT, SLEEP, TRANSMIT, TRANSMIT_BIT};
+use reference::slot::{self, HOPPING_SEQUENCE, LARGEST_ASN};
+use reference::{convert, library};
+use std::ptr::null;
+
+/// The option bits that count, as wide as a link has them.
+const TRANSMIT_BIT: u16 = OPTION_TRANSMIT as u16;
+const RECEIVE_BIT: u16 = OPTION_RECEIVE as u16;
 
 /// One question. The links lent are all but the first and the last of `buffer`; those two catch a library that reads
 /// or writes outside the list.
 #[derive(Clone, Debug)]
 struct Case {
     buffer: Vec<Link>,
-    size: u16,
-    id: u8,
+    size: u32,
+    id: u32,
     asn: u64,
     waits: bool,
 }
@@ -23,13 +29,17 @@ impl Case {
     }
 
     /// The slot's number within the slotframe, if there is one.
-    fn now(&self) -> Option<u16> {
-        self.asn.checked_rem(u64::from(self.size)).map(|now| now as u16)
+    fn now(&self) -> Option<u64> {
+        self.asn.checked_rem(self.size.into())
+    }
+
+    fn is_active(&self, link: &Link) -> bool {
+        Some(u64::from(link.timeslot)) == self.now()
     }
 }
 
 /// What a case is an example of. Refusals are told apart by the one reason that the case gives; several go together.
-const OUTCOMES: [&str; 24] = [
+const OUTCOMES: [&str; 25] = [
     "transmit on the first place",
     "transmit on a later place",
     "transmit, earlier active link only receives",
@@ -50,7 +60,8 @@ const OUTCOMES: [&str; 24] = [
     "refused, timeslot equals the size, no link is active",
     "refused, timeslot over the size, same slot mod size",
     "refused, timeslot over the size, other slot",
-    "refused, sequence ID",
+    "refused, sequence ID to 255",
+    "refused, sequence ID over 255",
     "refused, ASN 2^40",
     "refused, ASN over 2^40",
     "refused, several reasons",
@@ -59,19 +70,19 @@ const OUTCOMES: [&str; 24] = [
 /// The outcome that a case is counted under. A refusal is described from the case alone, an action from the answer.
 fn outcome(case: &Case, answer: Slot) -> &'static str {
     let links = case.links();
-    let now = case.now();
-    let active: Vec<&Link> = links.iter().filter(|link| Some(link.timeslot) == now).collect();
-    let has = |bit: u8| active.iter().any(|link| link.options & bit != 0);
+    let active: Vec<&Link> = links.iter().filter(|link| case.is_active(link)).collect();
+    let has = |bit: u16| active.iter().any(|link| link.options & bit != 0);
 
     let mut reasons = Vec::new();
     if case.size == 0 {
         reasons.push("refused, size 0");
-    } else if let Some(link) = links.iter().find(|link| link.timeslot >= case.size) {
+    } else if let Some(link) = links.iter().find(|link| u32::from(link.timeslot) >= case.size) {
         // An active link's timeslot is always below the size: what comes near is a link that reduction would activate.
-        reasons.push(match (link.timeslot == case.size, active.is_empty()) {
+        let timeslot = u32::from(link.timeslot);
+        reasons.push(match (timeslot == case.size, active.is_empty()) {
             (true, false) => "refused, timeslot equals the size, a link is active",
             (true, true) => "refused, timeslot equals the size, no link is active",
-            (false, _) if now == Some(link.timeslot % case.size) => {
+            (false, _) if case.now() == Some(u64::from(timeslot % case.size)) => {
                 "refused, timeslot over the size, same slot mod size"
             }
             (false, _) => "refused, timeslot over the size, other slot",
@@ -83,8 +94,10 @@ fn outcome(case: &Case, answer: Slot) -> &'static str {
         count if count > MOST_LINKS => reasons.push("refused, over 17 links"),
         _ => (),
     }
-    if case.id != 0 {
-        reasons.push("refused, sequence ID");
+    match case.id {
+        0 => (),
+        1..=255 => reasons.push("refused, sequence ID to 255"),
+        _ => reasons.push("refused, sequence ID over 255"),
     }
     if case.asn > LARGEST_ASN {
         reasons.push(if case.asn == 1 << 40 { "refused, ASN 2^40" } else { "refused, ASN over 2^40" });
@@ -95,11 +108,11 @@ fn outcome(case: &Case, answer: Slot) -> &'static str {
         [reason] => return reason,
         _ => return "refused, several reasons",
     }
-    match (answer.action, answer.place, case.waits) {
-        (TRANSMIT, place, _) => {
+    match (answer.action, answer.index, case.waits) {
+        (TRANSMIT, index, _) => {
             let earlier =
-                links[..place].iter().any(|link| Some(link.timeslot) == now && link.options & RECEIVE_BIT != 0);
-            match place {
+                links[..usize::from(index)].iter().any(|link| case.is_active(link) && link.options & RECEIVE_BIT != 0);
+            match index {
                 0 => "transmit on the first place",
                 _ if earlier => "transmit, earlier active link only receives",
                 _ => "transmit on a later place",
@@ -150,10 +163,29 @@ fn timeslot_over(random: &mut Random, size: u16, now: u16) -> u16 {
     }
 }
 
+/// A sequence ID; those that are refused are often 0 in their low 8 or 16 bits.
+fn random_id(random: &mut Random) -> u32 {
+    match random.below(100) {
+        0..92 => 0,
+        92..94 => random.pick(&[1, 16, 255]),
+        94..96 => random.between(1, 255) as u32,
+        96..98 => random.pick(&[256, 65536, 1 << 24, 1 << 31]),
+        _ => random.between(256, u32::MAX.into()) as u32,
+    }
+}
+
 /// A case of the given size. Whole schedules lean to one mood (which links are active, which bits they have), since
 /// links drawn one by one would almost never leave every active link without a bit.
-fn random_case(random: &mut Random, size: u16) -> Case {
-    let asn = random_asn(random);
+fn random_case(random: &mut Random, size: u32) -> Case {
+    let asn = match random.below(4) {
+        // In a slotframe of more than 65536 slots few of them can have a link: these come often.
+        0 if size > 65536 => {
+            let frames = (LARGEST_ASN + 1) / u64::from(size);
+            random.below(frames) * u64::from(size) + random.below(65536)
+        }
+        _ => random_asn(random),
+    };
+    // The active timeslot; where it is over 65535, what is left of it in 16 bits, which is not active.
     let now = asn.checked_rem(u64::from(size)).unwrap_or(0) as u16;
     let count = random_count(random);
     let active_percent = random.pick(&[0, 15, 50, 90]);
@@ -171,10 +203,11 @@ fn random_case(random: &mut Random, size: u16) -> Case {
             timeslot: match random.below(100) < active_percent {
                 true => now,
                 // This draw may hit the active slot too: a case is counted as what it is.
-                false => random.below(u64::from(size).max(1)) as u16,
+                false => random.below(u64::from(size.clamp(1, 65536))) as u16,
             },
-            offset: random.number() as u16,
-            options: random.number() as u8 & !clear | set,
+            channel_offset: random.number() as u16,
+            // In half of the links one byte, as on air.
+            options: random.number() as u16 & random.pick(&[0xFF, 0xFFFF]) & !clear | set,
         })
         .collect();
 
@@ -182,16 +215,11 @@ fn random_case(random: &mut Random, size: u16) -> Case {
     for place in [0, count + 1] {
         buffer[place].timeslot = random.pick(&[now, u16::MAX]);
     }
-    if count > 0 && random.chance(15) {
+    if let (true, Ok(size), true) = (count > 0, u16::try_from(size), random.chance(15)) {
         let place = random.between(1, count as u64) as usize;
         buffer[place].timeslot = timeslot_over(random, size, now);
     }
-    let id = match random.below(100) {
-        0..92 => 0,
-        92..96 => random.pick(&[1, 16, 255]),
-        _ => random.between(1, 255) as u8,
-    };
-    Case { buffer, size, id, asn, waits: random.chance(50) }
+    Case { buffer, size, id: random_id(random), asn, waits: random.chance(50) }
 }
 
 /// The library's answer. It gets a pointer to links that may be written, so that the compiler takes nothing for granted
@@ -202,9 +230,40 @@ fn library_answer(case: &Case) -> (Slot, Vec<Link>) {
     // SAFETY: the buffer holds count + 2 links, so from its second link on there are `count`.
     let answer = unsafe {
         let links = buffer.as_mut_ptr().add(1);
-        library::tesolvagna_decide(links, count, case.size, case.id, case.asn, case.waits)
+        library::tesolvagna_slot_decide(links, count, case.size, case.id, case.asn, case.waits)
     };
     (answer, buffer)
+}
+
+/// What cases with a size over 65535, or a link's options over 255, are an example of.
+const WIDE: [&str; 7] = [
+    "size 65536, not refused",
+    "size over 65535, transmit",
+    "size over 65535, listen",
+    "size over 65535, sleep, the slot is over 65535 and a link's in its low 16 bits",
+    "size over 65535, sleep, the slot is over 65535",
+    "size over 65535, sleep",
+    "options over 255 at the deciding link",
+];
+
+fn count_wide(case: &Case, answer: Slot, counts: &mut Counts) {
+    if answer.number != 0 {
+        return;
+    }
+    let deciding = &case.links()[usize::from(answer.index)];
+    counts.add_if(answer.action != SLEEP && deciding.options > 255, "options over 255 at the deciding link");
+    counts.add_if(case.size == 65536, "size 65536, not refused");
+    if case.size > 65535 {
+        let now = case.now().expect("the size is not 0");
+        let low = case.links().iter().any(|link| u64::from(link.timeslot) == now % 65536);
+        counts.add(match (answer.action, now > 65535, low) {
+            (TRANSMIT, _, _) => "size over 65535, transmit",
+            (LISTEN, _, _) => "size over 65535, listen",
+            (_, true, true) => "size over 65535, sleep, the slot is over 65535 and a link's in its low 16 bits",
+            (_, true, false) => "size over 65535, sleep, the slot is over 65535",
+            (_, false, _) => "size over 65535, sleep",
+        });
+    }
 }
 
 #[test]
@@ -215,34 +274,40 @@ fn library_decides_as_the_reference() {
 
     let mut random = Random::new(0x6715C);
     let mut outcomes = Counts::default();
+    let mut wide = Counts::default();
     let mut options_at_first_active = [0usize; 256];
     let mut channels = [[0usize; 27]; 3];
     let mut cases = 0usize;
 
     for _ in 0..ROUNDS {
         let any_size = random.number() as u16;
-        for size in (0..=20).chain([101, 65535, any_size]) {
+        let large_size = random.between(65537, 1 << 20) as u32;
+        let huge_size = random.between(1 << 20, u32::MAX.into()) as u32;
+        let sizes = [101, 65535, any_size.into(), 65536, large_size, huge_size];
+        for size in (0..=20).chain(sizes) {
             let case = random_case(&mut random, size);
-            let expected = slot::decide(case.links(), case.size, case.id, case.asn, case.waits);
+            let expected = convert::decide(case.links(), case.size, case.id, case.asn, case.waits);
             let (answer, buffer) = library_answer(&case);
-            assert_eq!(answer, expected, "case {cases}: {case:?}");
+            assert!(answer.same(&expected), "case {cases}: {answer:?} for {expected:?}: {case:?}");
             assert_eq!(buffer, case.buffer, "case {cases}: links were written");
 
             let found = outcome(&case, expected);
             assert_eq!(found.starts_with("refused"), expected.number == 8, "case {cases}, {found}: {case:?}");
             outcomes.add(found);
+            count_wide(&case, expected, &mut wide);
             if expected.number == 0 {
                 channels[expected.action as usize][expected.channel as usize] += 1;
-                if let Some(link) = case.links().iter().find(|link| Some(link.timeslot) == case.now()) {
-                    options_at_first_active[link.options as usize] += 1;
+                if let Some(link) = case.links().iter().find(|link| case.is_active(link)) {
+                    options_at_first_active[usize::from(link.options & 0xFF)] += 1;
                 }
             }
             cases += 1;
         }
     }
 
-    assert!(cases >= 200_000);
+    assert!(cases >= 336_000);
     outcomes.expect(&format!("outcomes of {cases} cases"), LEAST, &OUTCOMES);
+    wide.expect("numbers that 16 bits or a byte do not hold", LEAST, &WIDE);
     for (options, count) in options_at_first_active.iter().enumerate() {
         assert!(*count > 0, "options {options:#04x} never stood at the first active link");
     }
@@ -253,20 +318,28 @@ fn library_decides_as_the_reference() {
     }
 }
 
-/// The empty list in the form a caller has at hand: a pointer that is aligned and not null, and points to no link.
+/// The empty list in both forms: a pointer that points to no link, and NULL.
 #[test]
 fn no_links_are_refused() {
-    let refused = Slot { number: 8, action: SLEEP, channel: 0, place: 0 };
-    assert_eq!(slot::decide(&[], 11, 0, 0, true), refused);
+    let refused = Slot { number: 8, ..Slot::default() };
+    assert_eq!(convert::decide(&[], 11, 0, 0, true), refused);
     assert_eq!(library::decide(&[], 11, 0, 0, true), refused);
+    // SAFETY: with the length 0 a pointer may be null.
+    assert_eq!(unsafe { library::tesolvagna_slot_decide(null(), 0, 11, 0, 0, true) }, refused);
+}
+
+/// Both sides give this answer.
+fn expect(name: &str, links: &[Link], size: u32, id: u32, asn: u64, waits: bool, expected: Slot) {
+    assert_eq!(convert::decide(links, size, id, asn, waits), expected, "reference, {name}");
+    assert_eq!(library::decide(links, size, id, asn, waits), expected, "library, {name}");
 }
 
 /// Each limit from both sides, one number moved at a time.
 #[test]
 fn limits() {
-    let link = Link { timeslot: 0, offset: 0, options: TRANSMIT_BIT };
-    let transmit = |channel: u8| Slot { number: 0, action: TRANSMIT, channel, place: 0 };
-    let sleep = Slot { number: 0, action: SLEEP, channel: 0, place: 0 };
+    let link = Link { timeslot: 0, channel_offset: 0, options: TRANSMIT_BIT };
+    let transmit = |channel: u8| Slot { number: 0, action: TRANSMIT, channel, index: 0 };
+    let sleep = Slot::default();
     let refused = Slot { number: 8, ..sleep };
     let at = |timeslot: u16| Link { timeslot, ..link };
 
@@ -276,21 +349,30 @@ fn limits() {
         ("size 1", vec![link], 1, 0, 0, transmit(16)),
         ("size 65535, last timeslot", vec![at(65534)], 65535, 0, 65534, transmit(20)),
         ("size 65535, timeslot 65535", vec![at(65535)], 65535, 0, 65534, refused),
+        ("size 65536, 0 in 16 bits", vec![link], 65536, 0, 65536, transmit(16)),
+        ("size 65536, last timeslot", vec![at(65535)], 65536, 0, 65535, transmit(21)),
+        ("size 65537, slot 65536", vec![link], 65537, 0, 65536, sleep),
+        ("size 65547, 11 in 16 bits", vec![at(5)], 65547, 0, 16, sleep),
+        ("size 2^32 - 1", vec![at(1)], u32::MAX, 0, 1 << 32, transmit(16)),
         ("no links", vec![], 11, 0, 0, refused),
         ("1 link", vec![link; 1], 11, 0, 0, transmit(16)),
         ("16 links", vec![link; 16], 11, 0, 0, transmit(16)),
         ("17 links", vec![link; 17], 11, 0, 0, refused),
+        ("256 + 1 links", vec![link; 257], 11, 0, 0, refused),
+        ("65536 + 1 links", vec![link; 65537], 11, 0, 0, refused),
         ("timeslot below the size", vec![link, at(10)], 11, 0, 0, transmit(16)),
         ("timeslot equal to the size, after the deciding link", vec![link, at(11)], 11, 0, 0, refused),
         ("timeslot over the size, active if reduced", vec![at(14)], 11, 0, 3, refused),
         ("sequence ID 1", vec![link], 11, 1, 0, refused),
+        ("sequence ID 256", vec![link], 11, 256, 0, refused),
+        ("sequence ID 65536", vec![link], 11, 65536, 0, refused),
+        ("sequence ID 2^31", vec![link], 11, 1 << 31, 0, refused),
         ("ASN 2^40 - 1", vec![link], 11, 0, (1 << 40) - 1, transmit(21)),
         ("ASN 2^40", vec![at(1)], 11, 0, 1 << 40, refused),
         ("no active link", vec![link], 11, 0, 1, sleep),
     ];
     for (name, links, size, id, asn, expected) in cases {
-        assert_eq!(slot::decide(&links, size, id, asn, true), expected, "reference, {name}");
-        assert_eq!(library::decide(&links, size, id, asn, true), expected, "library, {name}");
+        expect(name, &links, size, id, asn, true, expected);
     }
 }
 
@@ -298,15 +380,15 @@ fn limits() {
 #[test]
 fn first_link_with_the_bit() {
     // Slotframe of 5, ASN 7: timeslot 2 is active; entry 7 + offset of the hopping sequence.
-    let link = |timeslot: u16, offset: u16, options: u8| Link { timeslot, offset, options };
+    let link = |timeslot: u16, channel_offset: u16, options: u16| Link { timeslot, channel_offset, options };
     let links = [
         link(1, 0, TRANSMIT_BIT | RECEIVE_BIT),
-        link(2, 1, 0b1111_1100),
+        link(2, 1, 0b1111_1111_1111_1100),
         link(2, 2, RECEIVE_BIT),
         link(2, 3, TRANSMIT_BIT | RECEIVE_BIT),
-        link(2, 4, TRANSMIT_BIT),
+        link(2, 4, 0xFF00 | TRANSMIT_BIT),
     ];
-    let slot = |action: u8, channel: u8, place: usize| Slot { number: 0, action, channel, place };
+    let slot = |action: u8, channel: u8, index: u8| Slot { number: 0, action, channel, index };
     let cases = [
         ("all, frame waits", &links[..], true, slot(TRANSMIT, 12, 3)),
         ("all, no frame", &links[..], false, slot(LISTEN, 11, 2)),
@@ -317,8 +399,7 @@ fn first_link_with_the_bit() {
         ("neither bit, no frame", &links[..2], false, slot(SLEEP, 0, 0)),
     ];
     for (name, links, waits, expected) in cases {
-        assert_eq!(slot::decide(links, 5, 0, 7, waits), expected, "reference, {name}");
-        assert_eq!(library::decide(links, 5, 0, 7, waits), expected, "library, {name}");
+        expect(name, links, 5, 0, 7, waits, expected);
     }
 }
 
@@ -364,7 +445,7 @@ fn sixteen_slots_use_all_channels() {
     for start in [0, 5, LARGEST_ASN - 15, random.below(LARGEST_ASN - 15)] {
         let offset = random.number() as u16;
         // A slotframe of one slot: the link is active in each, and the decision reports the channel too.
-        let links = [Link { timeslot: 0, offset, options: RECEIVE_BIT }];
+        let links = [Link { timeslot: 0, channel_offset: offset, options: RECEIVE_BIT }];
         let mut channels: Vec<u8> = (start..start + 16).map(|asn| library::channel(asn, offset)).collect();
         let decided = (start..start + 16).map(|asn| library::decide(&links, 1, 0, asn, false).channel);
         assert!(decided.eq(channels.iter().copied()), "start {start}, offset {offset}");

@@ -1,81 +1,68 @@
-//! The neighbour table: the static library against the reference, on random lists of calls, on numbers that are no
-//! table and on fixed values.
+//! The neighbour table: the static library against the reference, on random lists of calls, on tables that are refused and
+//! on fixed values.
 
 use reference::calls::{longest_descent, random_calls, CallList, Kind, LONGEST_LIST};
+use reference::convert::{self, Reply};
 use reference::coverage::{Counts, TableCoverage};
-use reference::lent::{self, Log, Outcome, Reply, MOST_ROWS};
-use reference::library::{self, Replayed};
-use reference::metric::{self, JoinMetric};
+use reference::interface as c;
+use reference::interface::Numbers;
+use reference::library;
+use reference::log::{self, Log, MOST_ROWS};
+use reference::metric;
 use reference::random::Random;
 use reference::stability::{self, Run, LEAST_GAIN, MOST_CHANGES_WITHOUT_RISES};
-use reference::table::{Call, Numbers, Place, Table, NO_RANK, PLACES, PLACE_NUMBERS, TABLE_NUMBERS};
+use reference::table::{Call, Place, Table, PLACES};
 use std::hint::black_box;
+use std::ptr::null;
 
-/// Where the held parent's mark and identifier stand in the numbers of a table.
-const PARENT: usize = PLACE_NUMBERS * PLACES;
-
-/// The numbers lent are all but the first and the last; those two catch a library that writes outside its table.
-#[derive(Clone, Debug, PartialEq, Eq)]
-struct Lent([u64; TABLE_NUMBERS + 2]);
-
-impl Lent {
-    fn new(numbers: &Numbers) -> Lent {
-        let mut buffer = [0xE06E_0F7A_B1E5_1DE5; TABLE_NUMBERS + 2];
-        buffer[1..=TABLE_NUMBERS].copy_from_slice(numbers);
-        Lent(buffer)
+/// The library's answer to a log, whose lists it only reads. Before and behind what is lent of a list stands a row that
+/// would have the log refused.
+fn replay(table: &c::Table, log: &Log) -> c::Replay {
+    fn between<T: Copy>(list: &[T], row: T) -> Vec<T> {
+        [&[row], list, &[row]].concat()
     }
-
-    fn of(table: &Table) -> Lent {
-        Lent::new(&table.to_numbers())
+    fn lent<T>(list: &[T]) -> &[T] {
+        &list[1..list.len() - 1]
     }
-
-    fn numbers(&mut self) -> &mut Numbers {
-        self.0[1..].first_chunk_mut().expect("as many numbers as a table has")
-    }
-
-    /// The library's answer to a call.
-    fn call(&mut self, call: &Call) -> Reply {
-        let reply = library::call(self.numbers(), call);
-        // The compiler shall take nothing for granted when the two that are not lent are compared.
-        black_box(self);
-        reply
-    }
-
-    /// The library's answer to a log, whose lists it only reads.
-    fn replay(&mut self, log: &Log) -> Replayed {
-        let lists = log.clone();
-        let replayed = library::replay(self.numbers(), black_box(log));
-        black_box(self);
-        assert_eq!(*log, lists, "a list was written");
-        replayed
-    }
+    let lists = Log {
+        kinds: between(&log.kinds, 255),
+        ids: between(&log.ids, 0xE06E_0F7A_B1E5_1DE5),
+        values: between(&log.values, 0xE06E),
+        flags: between(&log.flags, 255),
+    };
+    let before = lists.clone();
+    // The compiler shall take nothing for granted when the lists are compared.
+    let Log { kinds, ids, values, flags } = black_box(&lists);
+    let replay = library::replay_lists(table, lent(kinds), lent(ids), lent(values), lent(flags));
+    assert_eq!(lists, before, "a list was written");
+    replay
 }
 
 /// What the claim that parents do not flap compares; without meaning for lists that it does not apply to.
 #[derive(Clone, Copy, Debug, Default, PartialEq, Eq)]
 struct Claim {
-    evaluations: u64,
-    changes: u64,
+    evaluations: u32,
+    changes: u32,
     rises: u64,
-    first: u64,
-    last: u64,
+    first: u32,
+    last: u32,
 }
 
 impl Claim {
-    /// Counts an evaluation by the library's answers alone: the lent numbers on entry and exit, and the own rank.
-    fn add(&mut self, entry: &Numbers, exit: &Numbers, own_rank: u16) {
+    /// Counts an evaluation by the library's answers alone: the table on entry, and what was given for it.
+    fn add(&mut self, entry: &c::Table, evaluation: &c::Evaluation) {
         let cost = held_cost(entry);
         match self.evaluations {
             0 => self.first = cost,
-            _ => self.rises += cost.saturating_sub(self.last),
+            _ => self.rises += u64::from(cost.saturating_sub(self.last)),
         }
         self.evaluations += 1;
-        self.changes += u64::from(entry[PARENT..] != exit[PARENT..]);
-        self.last = u64::from(own_rank);
+        self.changes += u32::from(evaluation.changed);
+        self.last = u32::from(evaluation.rank);
     }
 
-    fn replayed(replayed: &Replayed) -> Claim {
-        let Replayed { evaluations, changes, rises, first, last, .. } = *replayed;
+    fn of(replay: &c::Replay) -> Claim {
+        let c::Replay { evaluations, changes, rises, first_cost: first, last_cost: last, .. } = *replay;
         Claim { evaluations, changes, rises, first, last }
     }
 
@@ -84,37 +71,43 @@ impl Claim {
         let spent = LEAST_GAIN * i128::from(self.changes) + i128::from(self.last);
         let slack = i128::from(self.first) + i128::from(self.rises) - spent;
         assert!(slack >= 0, "{name}: bound broken, {self:?}");
-        assert!(self.rises > 0 || self.changes <= MOST_CHANGES_WITHOUT_RISES as u64, "{name}: {self:?}");
+        assert!(self.rises > 0 || self.changes <= MOST_CHANGES_WITHOUT_RISES as u32, "{name}: {self:?}");
         slack
     }
 }
 
-/// The held parent's rank and the library's increment; 0 without a parent, which the claim does not speak of.
-fn held_cost(numbers: &Numbers) -> u64 {
-    let held = |row: &&[u64]| numbers[PARENT] == 1 && row[0] == 1 && row[1] == numbers[PARENT + 1];
-    let cost = |row: &[u64]| row[2] + u64::from(library::increment(row[3] as u16, row[4] as u16));
-    numbers.chunks_exact(PLACE_NUMBERS).find(held).map_or(0, cost)
+/// The held parent's rank and the library's increment; 0 without a parent.
+fn held_cost(table: &c::Table) -> u32 {
+    let held = |place: &&c::Neighbour| table.has_parent && place.in_use && place.id == table.parent;
+    let cost = |place: &c::Neighbour| u32::from(place.rank) + library::increment(place.attempts, place.acknowledged);
+    table.neighbours.iter().find(held).map_or(0, cost)
 }
 
-/// Runs a list call by call and compares each answer and all numbers; gives what it means for the claim.
+/// What an evaluation's answer says of the table that it gives back and of the one that it got.
+fn check_evaluation(name: &str, entry: &c::Table, evaluation: &c::Evaluation) {
+    let parents = |table: &c::Table| (table.has_parent, table.parent);
+    let now = parents(&evaluation.table);
+    assert_eq!((evaluation.has_parent, evaluation.parent), now, "{name}: {evaluation:?}");
+    assert_eq!(evaluation.changed, now != parents(entry), "{name}: {evaluation:?}");
+    assert!(evaluation.table.neighbours.same(&entry.neighbours), "{name}: {evaluation:?}");
+}
+
+/// Runs a list call by call and compares each answer; gives what it means for the claim.
 fn step(name: &str, list: &CallList) -> Claim {
-    let mut table = list.table.clone();
-    let mut lent = Lent::of(&table);
+    let mut table = c::Table::of(&list.table);
     let mut claim = Claim::default();
     for (index, call) in list.calls.iter().enumerate() {
-        let mut entry = lent.clone();
-        let reply = lent.call(call);
-        let expected = table.call(call);
-        let same = reply.number == expected.number && reply.own_rank == expected.own_rank;
-        assert!(same, "{name}, call {index}, {call:?}: {reply:?} for {expected:?}; {list:?}");
-        assert!(lent == Lent::of(&expected.table), "{name}, call {index}, {call:?}: {lent:?} for {expected:?}");
-        if reply.number != 0 {
-            assert!(lent == entry, "{name}, call {index}, {call:?}: refused, but written");
+        let reply = library::call(&table, call);
+        let expected = convert::call(&table, call);
+        assert!(reply.same(&expected), "{name}, call {index}, {call:?}: {reply:?} for {expected:?}; {list:?}");
+        if reply.number() != 0 {
+            assert!(reply.table().same(&table), "{name}, call {index}, {call:?}: refused, but changed");
         }
-        if let Some(own_rank) = reply.own_rank {
-            claim.add(entry.numbers(), lent.numbers(), own_rank);
+        if let Reply::Evaluation(evaluation) = &reply {
+            check_evaluation(name, &table, evaluation);
+            claim.add(&table, evaluation);
         }
-        table = expected.table;
+        table = *reply.table();
     }
     claim
 }
@@ -122,32 +115,30 @@ fn step(name: &str, list: &CallList) -> Claim {
 /// Runs a list call by call and as a log, through the library and the reference. The log has the list's calls.
 fn check_list(name: &str, list: &CallList, log: &Log, outcomes: &mut Counts) -> Run {
     assert_eq!(log.calls().as_ref(), Some(&list.calls), "{name}");
+    let table = c::Table::of(&list.table);
     let run = stability::run(&list.table, &list.calls);
-    let outcome = Outcome::of(&run);
+    let expected = if run.sound { c::Replay::of(&run) } else { c::Replay::refused(&table) };
     let stepped = step(name, list);
 
-    let mut lent = Lent::of(&list.table);
-    let replayed = lent.replay(log);
-    // A list outside the claim can have costs that the header gives no number; only those are not compared.
-    assert!(replayed.agrees(&outcome), "{name}: {replayed:?} for {outcome:?}; {list:?}");
-    assert!(lent == Lent::of(&run.table), "{name}: {lent:?} for {run:?}");
+    let replayed = replay(&table, log);
+    assert!(replayed.same(&expected), "{name}: {replayed:?} for {expected:?}; {list:?}");
+    if replayed.number != 0 {
+        assert!(replayed.table.same(&table), "{name}: refused, but changed");
+        assert_eq!((Claim::of(&replayed), replayed.applies), (Claim::default(), false), "{name}: refused, but counted");
+    }
 
     outcomes.add(match (replayed.number, replayed.applies) {
-        (0, 1) => "claim applies",
-        (0, _) => "claim does not apply",
+        (0, true) => "claim applies",
+        (0, false) => "claim does not apply",
         _ => "refused",
     });
-    let outside = outcome.number == 0 && !outcome.applies;
-    outcomes.add_if(outside && outcome.evaluations == 0, "no evaluation");
-    for (field, number) in [("rises", outcome.rises), ("first", outcome.first), ("last", outcome.last)] {
-        outcomes.add_if(outside && number.is_some(), format!("claim does not apply, {field} compared"));
-        outcomes.add_if(outside && number.is_none(), format!("claim does not apply, {field} without a number"));
+    if replayed.number == 0 && !replayed.applies {
+        count_costs(&run, outcomes);
     }
-    if replayed.applies == 1 {
-        let claim = Claim::replayed(&replayed);
+    if replayed.applies {
+        let claim = Claim::of(&replayed);
         assert_eq!(stepped, claim, "{name}: call by call, and as a log");
         assert_eq!(Some(claim.slack(name)), run.slack(), "{name}");
-        assert_eq!(stepped.slack(name), claim.slack(name), "{name}");
         let met = claim.slack(name) == 0 && claim.changes > 0;
         outcomes.add_if(met && claim.rises == 0, "bound met with equality, changes, no rise");
         outcomes.add_if(met && claim.rises > 0, "bound met with equality, changes, rises");
@@ -155,11 +146,26 @@ fn check_list(name: &str, list: &CallList, log: &Log, outcomes: &mut Counts) -> 
     run
 }
 
+/// Of a list outside the claim: which of its costs the rules name. The others, of no parent and of one that never
+/// acknowledged, only the header does.
+fn count_costs(run: &Run, outcomes: &mut Counts) {
+    if run.evaluations.is_empty() {
+        outcomes.add("no evaluation");
+        return;
+    }
+    let rises = run.evaluations.windows(2).all(|pair| pair[0].exit.cost.and(pair[1].entry.cost).is_some());
+    let costs = [("rises", rises), ("first", run.first_cost().is_some()), ("last", run.last_cost().is_some())];
+    for (field, named) in costs {
+        let by = if named { "the rules" } else { "the header alone" };
+        outcomes.add(format!("claim does not apply, {field} named by {by}"));
+    }
+}
+
 /// Puts random numbers where a row's call takes none.
 fn fill_unnamed(random: &mut Random, log: &mut Log) {
     for row in 0..log.kinds.len() {
         if log.kinds[row] == 3 {
-            log.identifiers[row] = random.number();
+            log.ids[row] = random.number();
         }
         if log.kinds[row] >= 2 {
             log.values[row] = random.number() as u16;
@@ -197,12 +203,12 @@ fn library_runs_lists_as_the_reference() {
             "no evaluation",
             "claim applies",
             "claim does not apply",
-            "claim does not apply, rises compared",
-            "claim does not apply, rises without a number",
-            "claim does not apply, first compared",
-            "claim does not apply, first without a number",
-            "claim does not apply, last compared",
-            "claim does not apply, last without a number",
+            "claim does not apply, rises named by the rules",
+            "claim does not apply, rises named by the header alone",
+            "claim does not apply, first named by the rules",
+            "claim does not apply, first named by the header alone",
+            "claim does not apply, last named by the rules",
+            "claim does not apply, last named by the header alone",
             "bound met with equality, changes, no rise",
             "bound met with equality, changes, rises",
         ],
@@ -217,10 +223,9 @@ fn longest_descent_through_the_library() {
     let list = CallList { kind: Kind::Descent, table, calls };
     check_list("longest descent", &list, &log, &mut Counts::default());
 
-    let replayed = Lent::of(&list.table).replay(&log);
-    let expected =
-        Replayed { number: 0, evaluations: 101, changes: 101, rises: 0, first: 65534, last: 793, applies: 1 };
-    assert_eq!(replayed, expected);
+    let replayed = replay(&c::Table::of(&list.table), &log);
+    let expected = Claim { evaluations: 101, changes: 101, rises: 0, first: 65534, last: 793 };
+    assert_eq!((replayed.number, replayed.applies, Claim::of(&replayed)), (0, true, expected));
 }
 
 /// So many calls on a sound table: a random list's, over and over.
@@ -262,35 +267,34 @@ fn logs_of_65535_calls() {
 
         for length in [MOST_ROWS + 1, MOST_ROWS + 2, 2 * MOST_ROWS + 2] {
             let calls: Vec<Call> = list.calls.iter().copied().cycle().take(length).collect();
-            check_refused_log(&format!("{length} calls"), &list.table.to_numbers(), &Log::of(&calls));
+            check_refused_log(&format!("{length} calls"), &c::Table::of(&list.table), &Log::of(&calls));
         }
     }
 
     let list = seesaw(MOST_ROWS);
-    let rounds = MOST_ROWS as u64 / 3;
-    let expected = Replayed {
-        number: 0,
-        evaluations: rounds,
-        changes: rounds,
-        rises: (rounds - 1) * (65534 - 512),
-        first: 65534,
-        last: 512,
-        applies: 1,
-    };
-    assert_eq!(Lent::of(&list.table).replay(&Log::of(&list.calls)), expected);
+    let rounds = MOST_ROWS as u32 / 3;
+    let rises = u64::from(rounds - 1) * (65534 - 512);
+    assert!(rises > u64::from(u32::MAX) / 4, "rises take many bits");
+    let expected = Claim { evaluations: rounds, changes: rounds, rises, first: 65534, last: 512 };
+    let replayed = replay(&c::Table::of(&list.table), &Log::of(&list.calls));
+    assert_eq!((replayed.number, replayed.applies, Claim::of(&replayed)), (0, true, expected));
 }
 
-/// Number 8, all counts 0, and nothing written.
-fn check_refused_log(name: &str, numbers: &Numbers, log: &Log) {
-    const REFUSED: Replayed =
-        Replayed { number: 8, evaluations: 0, changes: 0, rises: 0, first: 0, last: 0, applies: 0 };
-    let mut expected = *numbers;
-    assert_eq!(lent::replay(&mut expected, log), Outcome::REFUSED, "reference, {name}");
-    assert_eq!(expected, *numbers, "reference, {name}");
-
-    let mut lent = Lent::new(numbers);
-    assert_eq!(lent.replay(log), REFUSED, "library, {name}");
-    assert!(lent == Lent::new(numbers), "library, {name}: refused, but written");
+/// Number 8, all counts 0, and the table as it was.
+fn check_refused_log(name: &str, table: &c::Table, log: &Log) {
+    let refused = c::Replay {
+        number: 8,
+        applies: false,
+        evaluations: 0,
+        changes: 0,
+        rises: 0,
+        first_cost: 0,
+        last_cost: 0,
+        table: *table,
+    };
+    assert_eq!(log::replay(table, log), refused, "reference, {name}");
+    let replayed = replay(table, log);
+    assert!(replayed.same(&refused), "library, {name}: {replayed:?}");
 }
 
 /// Each reason to refuse a log, alone, in logs that are run without it.
@@ -301,21 +305,21 @@ fn refused_logs() {
         let list = long_list(&mut random, [Kind::Any, Kind::Full, Kind::Steady, Kind::Climb][index % 4], 40);
         let log = Log::of(&list.calls);
         check_list("before the change", &list, &log, &mut Counts::default());
-        let numbers = list.table.to_numbers();
+        let table = c::Table::of(&list.table);
         let check = |name: &str, change: &dyn Fn(&mut Log)| {
             let mut refused = log.clone();
             change(&mut refused);
-            check_refused_log(name, &numbers, &refused);
+            check_refused_log(name, &table, &refused);
         };
 
         // Shorter, empty, longer by one, and longer by what 16 bits lose.
         for length in [39, 0, 41, 40 + 65536] {
             check(&format!("{length} kinds"), &|log| log.kinds.resize(length, 3));
-            check(&format!("{length} identifiers"), &|log| log.identifiers.resize(length, 0));
+            check(&format!("{length} identifiers"), &|log| log.ids.resize(length, 0));
             check(&format!("{length} values"), &|log| log.values.resize(length, 0));
             check(&format!("{length} flags"), &|log| log.flags.resize(length, 0));
             check(&format!("40 kinds, of the others {length}"), &|log| {
-                log.identifiers.resize(length, 0);
+                log.ids.resize(length, 0);
                 log.values.resize(length, 0);
                 log.flags.resize(length, 0);
             });
@@ -335,56 +339,28 @@ fn refused_logs() {
                 log.flags[20] = 2;
             });
         }
-        let mut broken = numbers;
-        broken[PARENT] = 1;
-        broken[PARENT + 1] = random.number();
+        let broken = c::Table { has_parent: true, parent: random.number(), ..table };
         check_refused_log("held parent not there", &broken, &log);
         check_refused_log("held parent not there, no calls", &broken, &Log::default());
     }
 }
 
-/// Lists of numbers of every other length to 200, on a sound table and on noise: refused by every call, with nothing written.
-#[test]
-fn tables_of_another_length() {
-    let mut random = Random::new(0x162);
-    let sound = neighbours(PLACES, Some(100)).to_numbers();
-    for length in (0..=200).filter(|&length| length != TABLE_NUMBERS) {
-        let cut: Vec<u64> = sound.iter().copied().chain(std::iter::repeat(0)).take(length).collect();
-        let noise: Vec<u64> = (0..length).map(|_| random.number()).collect();
-        for before in [cut, noise] {
-            let mut numbers = before.clone();
-            assert_eq!(library::empty(&mut numbers), 8, "{length} numbers");
-            for call in every_call(100, 7) {
-                let refused = Reply { number: 8, own_rank: (call == Call::Evaluate).then_some(NO_RANK) };
-                assert_eq!(lent::call(&mut numbers, &call), refused, "reference, {length} numbers, {call:?}");
-                assert_eq!(library::call(&mut numbers, &call), refused, "library, {length} numbers, {call:?}");
-            }
-            let log = Log::of(&every_call(100, 7));
-            assert!(library::replay(&mut numbers, &log).agrees(&Outcome::REFUSED), "{length} numbers");
-            assert_eq!(numbers, before, "{length} numbers");
-        }
-    }
-}
-
-/// What the numbers were does not matter.
 #[test]
 fn empty_table() {
-    let mut lent = Lent::new(&[7; TABLE_NUMBERS]);
-    assert_eq!(library::empty(lent.numbers()), 0);
-    black_box(&mut lent);
-    assert_eq!(lent, Lent::new(&[0; TABLE_NUMBERS]));
-    assert_eq!(lent, Lent::of(&neighbours(0, None)));
+    assert!(library::init().same(&c::Table::default()));
+    assert_eq!(Table::from_c(&library::init()), Some(Table::default()));
 }
 
-/// A log without calls is run: nothing is counted, and the table stays.
+/// A log without calls is run, in both forms of an empty list: nothing is counted, and the table stays.
 #[test]
 fn empty_log() {
     let mut random = Random::new(0xE);
-    let mut lent = Lent::of(&long_list(&mut random, Kind::Steady, 1).table);
-    let before = lent.clone();
-    let replayed = lent.replay(&Log::default());
-    assert_eq!((replayed.number, replayed.evaluations, replayed.changes, replayed.applies), (0, 0, 0, 0));
-    assert!(lent == before);
+    let table = c::Table::of(&long_list(&mut random, Kind::Steady, 1).table);
+    let expected = c::Replay { table, ..c::Replay::default() };
+    assert!(table.has_parent && replay(&table, &Log::default()).same(&expected));
+    // SAFETY: with the length 0 a pointer may be null.
+    let replayed = unsafe { library::tesolvagna_table_replay(table, null(), 0, null(), 0, null(), 0, null(), 0) };
+    assert!(replayed.same(&expected), "{replayed:?}");
 }
 
 /// One call of each kind, also those that a sound table would refuse with another number.
@@ -402,21 +378,26 @@ fn every_call(known: u64, unknown: u64) -> [Call; 9] {
     ]
 }
 
-/// Refused with 8 by every call, with nothing written.
-fn check_refused_numbers(name: &str, numbers: &Numbers, known: u64, unknown: u64) {
+/// Refused with 8 by every call, and given back bit for bit.
+fn check_refused_table(name: &str, table: &c::Table, known: u64, unknown: u64) {
     for call in every_call(known, unknown) {
-        let own_rank = (call == Call::Evaluate).then_some(NO_RANK);
-        let refused = Reply { number: 8, own_rank };
-        let mut expected = *numbers;
-        assert_eq!(lent::call(&mut expected, &call), refused, "reference, {name}, {call:?}");
-        assert_eq!(expected, *numbers, "reference, {name}, {call:?}");
-
-        let mut lent = Lent::new(numbers);
-        assert_eq!(lent.call(&call), refused, "library, {name}, {call:?}");
-        assert!(lent == Lent::new(numbers), "library, {name}, {call:?}: refused, but written");
+        let refused = match call {
+            Call::Evaluate => Reply::Evaluation(c::Evaluation {
+                number: 8,
+                changed: false,
+                rank: 65535,
+                has_parent: table.has_parent,
+                parent: table.parent,
+                table: *table,
+            }),
+            _ => Reply::Call(c::TableAnswer { number: 8, table: *table }),
+        };
+        assert_eq!(convert::call(table, &call), refused, "reference, {name}, {call:?}");
+        let reply = library::call(table, &call);
+        assert!(reply.same(&refused), "library, {name}, {call:?}: {reply:?}");
     }
-    check_refused_log(name, numbers, &Log::of(&every_call(known, unknown)));
-    check_refused_log(name, numbers, &Log::default());
+    check_refused_log(name, table, &Log::of(&every_call(known, unknown)));
+    check_refused_log(name, table, &Log::default());
 }
 
 /// A sound table with neighbours 100, 101, .. in its first places.
@@ -429,63 +410,19 @@ fn neighbours(count: usize, held: Option<u64>) -> Table {
     table
 }
 
-/// One number is changed to what no table has. Among them are those that fewer bits would read as the number that was
-/// there.
+/// An identifier where no parent is held: any bit of it, and those of neighbours in use.
 #[test]
-fn numbers_that_are_no_table() {
-    let mut kinds = Counts::default();
-    let tables = [neighbours(0, None), neighbours(20, None), neighbours(PLACES, Some(100 + 31))];
-    for (table, neighbour) in tables.iter().zip([0, 119, 131]) {
-        assert!(table.sound());
-        let numbers = table.to_numbers();
-        let check = |index: usize, number: u64, name: &str| {
-            let mut wrong = numbers;
-            wrong[index] = number;
-            check_refused_numbers(&format!("{name}, number {index} is {number}"), &wrong, neighbour, 7);
-        };
-        for (index, was) in numbers.into_iter().enumerate() {
-            match (index, index % PLACE_NUMBERS) {
-                (0..PARENT, 1) => (),
-                (0..PARENT, 0) | (PARENT, _) => {
-                    for number in [2, 3, 255, was + (1 << 8), was + (1 << 16), was + (1 << 32), u64::MAX] {
-                        let name = if index == PARENT { "mark of a parent" } else { "mark of a place" };
-                        check(index, number, name);
-                        kinds.add(name);
-                    }
-                }
-                (0..PARENT, field) => {
-                    let name = ["rank", "attempts", "acknowledged"][field - 2];
-                    for number in [65536, was + (1 << 16), was + (1 << 32), was + (1 << 63), u64::MAX] {
-                        check(index, number, name);
-                        kinds.add(name);
-                    }
-                }
-                _ => (),
-            }
-        }
-        for identifier in [1, neighbour.max(1), 1 << 16, 1 << 32, 1 << 63, u64::MAX] {
-            let mut wrong = numbers;
-            wrong[PARENT] = 0;
-            wrong[PARENT + 1] = identifier;
-            check_refused_numbers("identifier beside the mark of no parent", &wrong, neighbour, 7);
-            kinds.add("identifier beside the mark of no parent");
-        }
-        // The largest numbers that a table may be read from break a rule, and are refused for that.
-        for field in [3, 4] {
-            check(field, 65535, "counter of 65535");
-            kinds.add("counter of 65535");
+fn parent_that_is_not_held() {
+    let mut tried = 0;
+    for (count, neighbour) in [(0, 0), (20, 119), (PLACES, 131)] {
+        let table = c::Table::of(&neighbours(count, None));
+        let bits = (0..64).map(|bit| 1 << bit);
+        for parent in bits.chain([neighbour.max(1), 100, u64::MAX]) {
+            check_refused_table(&format!("no parent, but {parent}"), &c::Table { parent, ..table }, neighbour, 7);
+            tried += 1;
         }
     }
-    let names = [
-        "mark of a place",
-        "mark of a parent",
-        "rank",
-        "attempts",
-        "acknowledged",
-        "identifier beside the mark of no parent",
-        "counter of 65535",
-    ];
-    kinds.expect("numbers that are no table", 6, &names);
+    assert_eq!(tried, 3 * 67);
 }
 
 /// Each rule broken at each place, and each two places with one identifier.
@@ -495,14 +432,15 @@ fn tables_that_break_a_rule() {
         let mut table = given.clone();
         change(&mut table);
         assert!(given.sound() && !table.sound(), "{name}");
-        check_refused_numbers(&name, &table.to_numbers(), 100, 7);
+        check_refused_table(&name, &c::Table::of(&table), 100, 7);
     };
     let full = neighbours(PLACES, Some(100));
     for index in 0..PLACES {
-        for attempts in [256, 65535] {
+        // Among them numbers that are 100 and 75 in their low byte.
+        for attempts in [256, 256 + 100, 32768 + 100, 65535] {
             check(format!("t {attempts} at {index}"), &full, &|table| table.places[index].attempts = attempts);
         }
-        for acknowledged in [101, 65535] {
+        for acknowledged in [101, 256 + 75, 32768 + 75, 65535] {
             check(format!("a {acknowledged} at {index}"), &full, &|table| {
                 table.places[index].acknowledged = acknowledged;
             });
@@ -527,7 +465,7 @@ fn tables_that_break_a_rule() {
                 table.places[index].identifier = identifier;
             });
         }
-        for rank in [1, 65535] {
+        for rank in [1, 256, 65535] {
             check(format!("free place {index} with a rank"), &one_free, &|table| table.places[index].rank = rank);
         }
         check(format!("free place {index} with attempts"), &one_free, &|table| table.places[index].attempts = 1);
@@ -539,18 +477,24 @@ fn tables_that_break_a_rule() {
     }
 }
 
-/// All numbers of attempts, for a neighbour and for one that is not there.
+/// The library's answer to a call on the reference's table is the reference's.
+fn check_call(table: &Table, call: &Call) -> Reply {
+    let table = c::Table::of(table);
+    let (reply, expected) = (library::call(&table, call), convert::call(&table, call));
+    assert!(reply.same(&expected), "{call:?}: {reply:?} for {expected:?}; {table:?}");
+    reply
+}
+
+/// All numbers of attempts to 65535, and larger ones that are few attempts in their low bits, for a neighbour and for one
+/// that is not there.
 #[test]
 fn reports_of_all_attempts() {
     let table = neighbours(3, None);
-    for attempts in 0..=u64::from(u16::MAX) {
+    let larger = [1 << 16, 1 << 17, 1 << 24, 1 << 31, u64::from(u32::MAX) - 4].map(|more| more..more + 5);
+    for attempts in (0..=65535).chain(larger.into_iter().flatten()) {
         for identifier in [102, 7] {
-            let call = Call::Report { identifier, attempts, acknowledged: true };
-            let mut lent = Lent::of(&table);
-            let reply = lent.call(&call);
-            let expected = table.call(&call);
-            assert_eq!((reply.number, reply.own_rank), (expected.number, expected.own_rank), "{call:?}");
-            assert!(lent == Lent::of(&expected.table), "{call:?}");
+            let reply = check_call(&table, &Call::Report { identifier, attempts, acknowledged: true });
+            assert!(reply.number() == 8 || (1..=4).contains(&attempts), "{attempts} attempts");
         }
     }
 }
@@ -568,16 +512,13 @@ fn eligible_with_all_counters() {
             for rank in [0, 255, 256, 257, 65278, 65279, 65280, 65534, 65535].into_iter().chain(near) {
                 let mut table = Table::default();
                 table.places[31] = Place { used: true, identifier: 0, rank, attempts, acknowledged };
-                let mut lent = Lent::of(&table);
-                let reply = lent.call(&Call::Evaluate);
-                let expected = table.call(&Call::Evaluate);
-                let name = format!("rank {rank}, t {attempts}, a {acknowledged}");
-                assert_eq!((reply.number, reply.own_rank), (0, expected.own_rank), "{name}");
-                assert!(lent == Lent::of(&expected.table), "{name}");
-                found.add(match (reply.own_rank, expected.table.held) {
-                    (Some(65534), Some(0)) => "own rank 65534",
-                    (Some(_), Some(0)) => "parent",
-                    _ => "none",
+                let Reply::Evaluation(evaluation) = check_call(&table, &Call::Evaluate) else {
+                    panic!("not an evaluation");
+                };
+                found.add(match (evaluation.rank, evaluation.has_parent) {
+                    (65534, true) => "own rank 65534",
+                    (_, true) => "parent",
+                    (_, false) => "none",
                 });
             }
         }
@@ -585,13 +526,9 @@ fn eligible_with_all_counters() {
     found.expect("evaluations of one neighbour", 1000, &["own rank 65534", "parent", "none"]);
 }
 
-/// The library's increment has no sign: it is 0 where the reference's is below 0, which takes more acknowledged than a
-/// table may hold.
 fn check_increment(attempts: u16, acknowledged: u16) {
-    let expected = metric::increment(attempts.into(), acknowledged.into()).unwrap_or(0);
-    assert!(expected >= 0 || acknowledged > attempts);
-    let found = i128::from(library::increment(attempts, acknowledged));
-    assert_eq!(found, expected.max(0), "t {attempts}, a {acknowledged}");
+    let expected = convert::increment(attempts, acknowledged);
+    assert_eq!(library::increment(attempts, acknowledged), expected, "t {attempts}, a {acknowledged}");
 }
 
 #[test]
@@ -609,16 +546,20 @@ fn increments() {
     }
 }
 
+/// All ranks of 16 bits, and larger ones that are such a rank in their low 16 bits.
 #[test]
 fn join_metrics_of_all_ranks() {
-    for rank in 0..=u16::MAX {
-        assert_eq!(library::join_metric(rank), metric::join_metric(rank), "rank {rank}");
+    let larger = [1 << 16, 1 << 24, 1 << 31, u32::MAX - 65535].map(|more: u32| more..=more + 65535);
+    for rank in (0..=65535).chain(larger.into_iter().flatten()) {
+        let found = library::join_metric(rank);
+        assert_eq!(found, convert::join_metric(rank), "rank {rank}");
+        assert!(found.number == 0 || found.number == 8 && found.metric == 0, "rank {rank}");
     }
 }
 
-/// The library and the reference on lent numbers.
-type TableCall = fn(&mut [u64], &Call) -> Reply;
-const SIDES: [(&str, TableCall); 2] = [("library", library::call), ("reference", lent::call)];
+/// The library and the reference on C's table.
+type TableCall = fn(&c::Table, &Call) -> Reply;
+const SIDES: [(&str, TableCall); 2] = [("library", library::call), ("reference", convert::call)];
 
 /// The rules' own examples; those of channels stand with the slot decision's tests.
 #[test]
@@ -629,20 +570,25 @@ fn values_of_the_rules() {
     }
 
     for (rank, number, metric) in [(256, 0, 0), (2816, 0, 10), (255, 8, 0), (65535, 8, 0)] {
-        let expected = JoinMetric { number, metric };
+        let expected = c::Metric { number, metric };
         assert_eq!(library::join_metric(rank), expected, "library, rank {rank}");
-        assert_eq!(metric::join_metric(rank), expected, "reference, rank {rank}");
+        assert_eq!(convert::join_metric(rank), expected, "reference, rank {rank}");
     }
 
-    let neighbour = |identifier: u64, rank: u16, attempts: u64, acknowledged: u64| Place {
-        used: true,
-        identifier,
+    let neighbour = |id: u64, rank: u16, attempts: u16, acknowledged: u16| c::Neighbour {
+        id,
         rank,
         attempts,
         acknowledged,
+        in_use: true,
+    };
+    let table = |places: &[c::Neighbour], held: Option<u64>| {
+        let mut table = c::Table { has_parent: held.is_some(), parent: held.unwrap_or(0), ..c::Table::default() };
+        table.neighbours[..places.len()].copy_from_slice(places);
+        table
     };
     // Eligible neighbours become the parent, others do not.
-    let one = |attempts: u64, acknowledged: u64| vec![neighbour(5, 256, attempts, acknowledged)];
+    let one = |attempts: u16, acknowledged: u16| vec![neighbour(5, 256, attempts, acknowledged)];
     // Costs 1408 and `best`.
     let two = |best: u16| vec![neighbour(5, 1408 - 256, 1, 1), neighbour(6, best - 256, 1, 1)];
     let evaluations = [
@@ -652,26 +598,25 @@ fn values_of_the_rules() {
         ("1408 held, 768 best", two(768), Some(5), Some(5), 1408),
         ("1408 held, 767 best", two(767), Some(5), Some(6), 767),
     ];
-    for (name, places, held, parent, own_rank) in evaluations {
-        let mut table = Table { held, ..Table::default() };
-        table.places[..places.len()].copy_from_slice(&places);
-        let after = Table { held: parent, ..table.clone() };
+    for (name, places, held, parent, rank) in evaluations {
+        let expected = c::Evaluation {
+            number: 0,
+            changed: held != parent,
+            rank,
+            has_parent: parent.is_some(),
+            parent: parent.unwrap_or(0),
+            table: table(&places, parent),
+        };
         for (side, call) in SIDES {
-            let mut numbers = table.to_numbers();
-            let reply = call(&mut numbers, &Call::Evaluate);
-            assert_eq!(reply, Reply { number: 0, own_rank: Some(own_rank) }, "{side}, {name}");
-            assert_eq!(numbers, after.to_numbers(), "{side}, {name}");
+            assert_eq!(call(&table(&places, held), &Call::Evaluate), Reply::Evaluation(expected), "{side}, {name}");
         }
     }
 
-    let mut table = Table::default();
-    table.places[0] = neighbour(5, 256, 255, 1);
-    let mut after = Table::default();
-    after.places[0] = neighbour(5, 256, 128, 0);
+    let given = table(&[neighbour(5, 256, 255, 1)], None);
+    let halved = c::TableAnswer { number: 0, table: table(&[neighbour(5, 256, 128, 0)], None) };
     for (side, call) in SIDES {
-        let mut numbers = table.to_numbers();
-        let reply = call(&mut numbers, &Call::Report { identifier: 5, attempts: 1, acknowledged: false });
-        assert_eq!((reply, numbers), (Reply { number: 0, own_rank: None }, after.to_numbers()), "{side}, halved");
+        let reply = call(&given, &Call::Report { identifier: 5, attempts: 1, acknowledged: false });
+        assert_eq!(reply, Reply::Call(halved), "{side}, halved");
     }
 }
 
@@ -683,22 +628,32 @@ fn five_hops() {
     for (side, call) in SIDES {
         for (hop, ranks) in RANKS.windows(2).enumerate() {
             let identifier = hop as u64;
-            let mut numbers = Table::default().to_numbers();
+            let mut table = library::init();
             let mut calls = vec![Call::Advertise { identifier, rank: ranks[0] }];
             calls.extend((0..100).map(|attempt| {
                 // Every fourth is lost.
                 Call::Report { identifier, attempts: 1, acknowledged: attempt % 4 != 3 }
             }));
             for made in calls {
-                assert_eq!(call(&mut numbers, &made), Reply { number: 0, own_rank: None }, "{side}, hop {hop}");
+                let reply = call(&table, &made);
+                assert_eq!(reply.number(), 0, "{side}, hop {hop}");
+                table = *reply.table();
             }
-            assert_eq!(numbers[..PLACE_NUMBERS], [1, identifier, ranks[0].into(), 100, 75], "{side}, hop {hop}");
-            let reply = call(&mut numbers, &Call::Evaluate);
-            assert_eq!(reply, Reply { number: 0, own_rank: Some(ranks[1]) }, "{side}, hop {hop}");
-            assert_eq!(numbers[PARENT..], [1, identifier], "{side}, hop {hop}");
+            let neighbour =
+                c::Neighbour { id: identifier, rank: ranks[0], attempts: 100, acknowledged: 75, in_use: true };
+            assert_eq!(table.neighbours[0], neighbour, "{side}, hop {hop}");
+            let expected = c::Evaluation {
+                number: 0,
+                changed: true,
+                rank: ranks[1],
+                has_parent: true,
+                parent: identifier,
+                table: c::Table { has_parent: true, parent: identifier, ..table },
+            };
+            assert_eq!(call(&table, &Call::Evaluate), Reply::Evaluation(expected), "{side}, hop {hop}");
         }
     }
     assert_eq!(library::increment(100, 75), 512);
-    let metrics = RANKS.map(library::join_metric);
-    assert_eq!(metrics, [0, 2, 4, 6, 8, 10].map(|metric| JoinMetric { number: 0, metric }));
+    let metrics = RANKS.map(|rank| library::join_metric(rank.into()));
+    assert_eq!(metrics, [0, 2, 4, 6, 8, 10].map(|metric| c::Metric { number: 0, metric }));
 }

@@ -1,16 +1,17 @@
 //! Writing beacons: the reference on records laid out by hand, and on what reading gives. Needs no static library.
 
+use reference::convert;
 use reference::coverage::Counts;
-use reference::flat::{lay_out, Flat, BLANK, LINK_COUNT, PAN, SEQUENCE, SEQUENCE_PRESENT, SOURCE, SOURCE_KIND};
 use reference::frame::{self, Address, LONGEST_FRAME};
 use reference::frames;
+use reference::interface as c;
 use reference::slot::Link;
 use reference::worked;
-use reference::write::{frame_length, write, write_flat, Joining, Limit, Misfit, Record, Refusal, LARGEST};
+use reference::write::{frame_length, write, Joining, Limit, Misfit, Record, Refusal};
 use std::fs;
 use std::path::Path;
 
-/// What a room holds before.
+/// What a buffer holds before.
 const FILL: u8 = 0x55;
 
 /// Links from the first place on.
@@ -90,13 +91,13 @@ fn example(name: &str) -> Vec<u8> {
     fs::read(&path).unwrap_or_else(|error| panic!("{}: {error}", path.display()))
 }
 
-/// The frame that is written into a room with some bytes to spare, which stay.
+/// The frame that is written into a buffer with some bytes to spare, which stay.
 fn written(record: &Record) -> Result<Vec<u8>, Refusal> {
-    let mut room = [FILL; LONGEST_FRAME + 20];
-    let answer = write(record, &mut room);
+    let mut buffer = [FILL; LONGEST_FRAME + 20];
+    let answer = write(record, &mut buffer);
     let length = answer.unwrap_or(0);
-    assert!(room[length..].iter().all(|byte| *byte == FILL), "{record:?}");
-    answer.map(|length| room[..length].to_vec())
+    assert!(buffer[length..].iter().all(|byte| *byte == FILL), "{record:?}");
+    answer.map(|length| buffer[..length].to_vec())
 }
 
 #[test]
@@ -298,14 +299,14 @@ fn limits() {
     }
 }
 
-/// 125 bytes are written and 126 are not; a room of the frame's length is enough.
+/// 125 bytes are written and 126 are not; a buffer of the frame's length is enough.
 #[test]
-fn lengths_and_rooms() {
-    let in_room = |record: &Record, length: usize| {
-        let mut room = vec![FILL; length];
-        let answer = write(record, &mut room);
+fn lengths_and_buffers() {
+    let in_buffer = |record: &Record, length: usize| {
+        let mut buffer = vec![FILL; length];
+        let answer = write(record, &mut buffer);
         let written = answer.unwrap_or(0);
-        assert!(room[written..].iter().all(|byte| *byte == FILL), "{answer:?} in {length} bytes");
+        assert!(buffer[written..].iter().all(|byte| *byte == FILL), "{answer:?} in {length} bytes");
         answer
     };
     let too_long = Record { sequence: Some(0), ..longest() };
@@ -313,67 +314,58 @@ fn lengths_and_rooms() {
     assert_eq!(frame_length(&longest()), 125);
     assert_eq!(frame_length(&too_long), 126);
     for length in 0..200 {
-        let fits = |needed: usize| if length < needed { Err(Refusal::NoRoom) } else { Ok(needed) };
-        assert_eq!(in_room(&minimal(), length), fits(38));
-        assert_eq!(in_room(&joining(), length), fits(99));
-        assert_eq!(in_room(&longest(), length), fits(125));
-        assert_eq!(in_room(&too_long, length), Err(Refusal::FrameTooLong), "{length}");
-        assert_eq!(in_room(&broken, length), Err(Refusal::Limit(Limit::Asn)), "{length}");
+        let fits = |needed: usize| if length < needed { Err(Refusal::BufferTooShort) } else { Ok(needed) };
+        assert_eq!(in_buffer(&minimal(), length), fits(38));
+        assert_eq!(in_buffer(&joining(), length), fits(99));
+        assert_eq!(in_buffer(&longest(), length), fits(125));
+        assert_eq!(in_buffer(&too_long, length), Err(Refusal::FrameTooLong), "{length}");
+        assert_eq!(in_buffer(&broken, length), Err(Refusal::Limit(Limit::Asn)), "{length}");
     }
     // Sixteen links and timings: within every limit, and too long.
     let sixteen = Record { template: 1, timed: true, timings: [1; 12], count: 16, ..minimal() };
     assert_eq!((frame_length(&sixteen), sixteen.broken_limits()), (137, vec![]));
     assert_eq!(written(&sixteen), Err(Refusal::FrameTooLong));
     let numbers =
-        [Refusal::Limit(Limit::Asn), Refusal::Misfit(Misfit::Options), Refusal::FrameTooLong, Refusal::NoRoom];
+        [Refusal::Limit(Limit::Asn), Refusal::Misfit(Misfit::Options), Refusal::FrameTooLong, Refusal::BufferTooShort];
     assert_eq!(numbers.map(Refusal::number), [8, 8, 1, 9]);
 }
 
-/// The arrays hold a record, or a number in them does not fit its field.
+/// C's form holds a record, or is no record's.
 #[test]
-fn arrays() {
-    let record = joining();
-    let mut flat = BLANK;
-    assert_eq!(lay_out(&frame::read(&example("joining")), &mut flat), 0);
-    assert_eq!(record.to_flat(), flat);
-    assert_eq!(Record::from_flat(&flat), Ok(record));
+fn records_in_the_form_of_c() {
+    let read = convert::read(&example("joining"));
+    assert_eq!((read.number, read.beacon), (0, c::Beacon::of_record(&joining())));
+    assert_eq!(Record::from_c(&read.beacon), Ok(joining()));
 
-    let refused = |flat: &Flat, misfit: Misfit| {
-        let mut room = [FILL; LONGEST_FRAME];
-        assert_eq!(write_flat(flat, &mut room), Err(Refusal::Misfit(misfit)), "{flat:?}");
-        assert_eq!(room, [FILL; LONGEST_FRAME]);
+    let changed = |change: fn(&mut c::Beacon)| {
+        let mut beacon = read.beacon;
+        change(&mut beacon);
+        beacon
     };
-    for (place, largest) in LARGEST.into_iter().enumerate() {
-        for number in [1, 1 << 8, 1 << 16, 1 << 32, 1 << 63].into_iter().filter_map(|more| largest.checked_add(more)) {
-            let mut flat = flat.clone();
-            flat.numbers[place] = number;
-            refused(&flat, Misfit::Number(place));
-        }
-    }
-    let mut changed = flat.clone();
-    changed.numbers[SEQUENCE_PRESENT] = 0;
-    refused(&changed, Misfit::AbsentSequence);
-    changed.numbers[SEQUENCE] = 0;
-    assert_eq!(Record::from_flat(&changed), Ok(Record { sequence: None, ..joining() }));
-    changed.numbers[SOURCE_KIND] = 0;
-    refused(&changed, Misfit::ShortSource);
-    changed.numbers[SOURCE] = 65536;
-    refused(&changed, Misfit::ShortSource);
-    changed.numbers[SOURCE] = 65535;
-    changed.numbers[PAN] = 65535;
-    let expected = Record { sequence: None, source: Address::Short(65535), pan: 65535, ..joining() };
-    assert_eq!(Record::from_flat(&changed), Ok(expected));
-    for place in [0, 1, 15] {
-        let mut changed = flat.clone();
-        changed.links[3 * place + 2] = 256;
-        refused(&changed, Misfit::Options);
-    }
+    let refused = |change: fn(&mut c::Beacon), misfit: Misfit| {
+        let beacon = changed(change);
+        let mut buffer = [FILL; LONGEST_FRAME];
+        assert_eq!(convert::write(&beacon, &mut buffer), Err(Refusal::Misfit(misfit)), "{beacon:?}");
+        assert_eq!(buffer, [FILL; LONGEST_FRAME]);
+    };
+    refused(|beacon| beacon.has_sequence_number = false, Misfit::AbsentSequence);
+    refused(|beacon| (beacon.has_sequence_number, beacon.sequence_number) = (false, 1), Misfit::AbsentSequence);
+    refused(|beacon| beacon.source_is_extended = false, Misfit::ShortSource);
+    refused(|beacon| (beacon.source_is_extended, beacon.source) = (false, 65536), Misfit::ShortSource);
+    refused(|beacon| beacon.slotframe.links[0].options = 256, Misfit::Options);
+    refused(|beacon| beacon.slotframe.links[1].options = 0xFF00, Misfit::Options);
+    refused(|beacon| beacon.slotframe.links[15].options = 0x8000, Misfit::Options);
+
+    let without = changed(|beacon| (beacon.has_sequence_number, beacon.sequence_number) = (false, 0));
+    assert_eq!(Record::from_c(&without), Ok(Record { sequence: None, ..joining() }));
+    let short = changed(|beacon| (beacon.source_is_extended, beacon.source) = (false, 65535));
+    assert_eq!(Record::from_c(&short), Ok(Record { source: Address::Short(65535), ..joining() }));
     // 18 links in eight bits would be 2 in four.
-    let mut changed = flat;
-    changed.numbers[LINK_COUNT] = 18;
-    let mut room = [FILL; LONGEST_FRAME];
-    assert_eq!(write_flat(&changed, &mut room), Err(Refusal::Limit(Limit::TooManyLinks)));
-    assert_eq!(write_flat(&BLANK, &mut room), Err(Refusal::Limit(Limit::SlotframeSize)));
+    let many = changed(|beacon| beacon.slotframe.link_count = 18);
+    let mut buffer = [FILL; LONGEST_FRAME];
+    assert_eq!(convert::write(&many, &mut buffer), Err(Refusal::Limit(Limit::TooManyLinks)));
+    let blank = c::Beacon::default();
+    assert_eq!(convert::write(&blank, &mut buffer), Err(Refusal::Limit(Limit::SlotframeSize)));
 }
 
 /// Whatever reading accepts is within the limits, is written in no more bytes, and reads as the same again.
@@ -385,11 +377,12 @@ fn what_is_read_can_be_written() {
             return;
         };
         let record = Record::from_beacon(&beacon);
-        let mut room = vec![FILL; frame.len()];
-        let length = write(&record, &mut room).unwrap_or_else(|refusal| panic!("{kind:?}, {refusal:?}: {frame:02X?}"));
-        assert_eq!(frame::read(&room[..length]).as_ref(), Ok(&beacon), "{kind:?}: {frame:02X?}");
+        let mut buffer = vec![FILL; frame.len()];
+        let length =
+            write(&record, &mut buffer).unwrap_or_else(|refusal| panic!("{kind:?}, {refusal:?}: {frame:02X?}"));
+        assert_eq!(frame::read(&buffer[..length]).as_ref(), Ok(&beacon), "{kind:?}: {frame:02X?}");
         assert_eq!(record.to_beacon(), Some(beacon), "{kind:?}: {frame:02X?}");
-        counts.add(match (length == frame.len(), room == frame) {
+        counts.add(match (length == frame.len(), buffer == frame) {
             (true, true) => "the same frame",
             (true, false) => "another frame of the same length",
             (false, _) => "a shorter frame",

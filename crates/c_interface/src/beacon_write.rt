@@ -1,6 +1,7 @@
 // Writing a beacon for C: the record comes by value in its form without enums.
 ghost use mathlib.Core.Path.{_≡_};
 ghost use lib.ListN.{length};
+ghost use Rattle.eb_write_spec.specs.Claims.{FormNumbers};
 ghost use Rattle.eb_write_spec.specs.Form.{formWritten, bufferAfterForm};
 use eb_record_spec::BeaconForm;
 use eb_write_spec::Written;
@@ -12,6 +13,7 @@ use refusal::OUT_OF_LIMITS;
 pub extern "C" fn tesolvagna_beacon_write(buffer: &mut [u8], beacon: BeaconForm) -> Written
     ensures answer { λ r. ⌜ r ≡ formWritten beacon (length (now (buffer .entry))) ⌝ }
     ensures buffer { λ _. ⌜ now (buffer .exit) ≡ bufferAfterForm beacon (now (buffer .entry)) ⌝ }
+    ensures numbers { λ _. ⌜ FormNumbers ⌝ }
 {
     if !eb_record::is_beacon(beacon) {
         return Written {

@@ -3,3 +3,4 @@ pub mod beacon_read;
 pub mod beacon_write;
 pub mod rank;
 pub mod slot;
+pub mod table;

@@ -1,6 +1,6 @@
 // The slot decision and the channel rule for C.
 ghost use mathlib.Core.Path.{_≡_};
-ghost use Rattle.hopping.specs.Hopping.{channelOf};
+ghost use Rattle.slot_spec.specs.Hopping.{channelOf};
 ghost use Rattle.slot_spec.specs.Slot.{decision};
 ghost use Rattle.slot_spec.specs.Answer.{answerOf};
 use eb_record_spec::Link;
@@ -8,10 +8,10 @@ use slot_spec::SlotAnswer;
 
 // The slot decision over a lent list of links.
 #[no_mangle]
-pub extern "C" fn tesolvagna_decide(
+pub extern "C" fn tesolvagna_slot_decide(
     links: &[Link],
-    size: u16,
-    id: u8,
+    size: u32,
+    id: u32,
     asn: u64,
     waits: bool,
 ) -> SlotAnswer
@@ -22,8 +22,8 @@ pub extern "C" fn tesolvagna_decide(
 
 // The channel of a link with this channel offset at this ASN.
 #[no_mangle]
-pub extern "C" fn tesolvagna_channel(asn: u64, offset: u16) -> u8
-    ensures { λ r. ⌜ r ≡ channelOf asn offset ⌝ }
+pub extern "C" fn tesolvagna_channel(asn: u64, channel_offset: u16) -> u8
+    ensures { λ r. ⌜ r ≡ channelOf asn «channel_offset» ⌝ }
 {
-    hopping::channel(asn, offset)
+    hopping::channel(asn, channel_offset)
 }

@@ -16,45 +16,45 @@ use Rattle.eb_record_spec.specs.Record.{blankJoining, blankBeacon}
 -- whether there is a sequence number
 unfoldable pub isSequenced : SequenceNumber → Bool
 isSequenced Absent = false
-isSequenced (Number n) = true
+isSequenced (Number number) = true
 
 -- which it is, and 0 for none
 unfoldable pub sequenceNumber : SequenceNumber → ℕ
 sequenceNumber Absent = 0
-sequenceNumber (Number n) = n
+sequenceNumber (Number number) = number
 
 -- whether an address is extended
 unfoldable pub isExtended : Address → Bool
-isExtended (Short n) = false
-isExtended (Extended n) = true
+isExtended (Short number) = false
+isExtended (Extended number) = true
 
 -- its number
 unfoldable pub addressNumber : Address → ℕ
-addressNumber (Short n) = n
-addressNumber (Extended n) = n
+addressNumber (Short number) = number
+addressNumber (Extended number) = number
 
 -- the form of a record
 unfoldable pub formOf : Beacon → BeaconForm
-formOf b = record {
-  sequenced = isSequenced (b .sequence);
-  sequence = sequenceNumber (b .sequence);
-  pan = b .pan;
-  extended = isExtended (b .source);
-  source = addressNumber (b .source);
-  synchronization = b .synchronization;
-  timeslot = b .timeslot;
-  hopping = b .hopping;
-  slotframe = b .slotframe;
-  joining = b .joining;
+formOf beacon = record {
+  sequenced = isSequenced (beacon .sequence);
+  sequence = sequenceNumber (beacon .sequence);
+  pan = beacon .pan;
+  extended = isExtended (beacon .source);
+  source = addressNumber (beacon .source);
+  synchronization = beacon .synchronization;
+  timeslot = beacon .timeslot;
+  hopping = beacon .hopping;
+  slotframe = beacon .slotframe;
+  joining = beacon .joining;
 }
 
 -- a sequence number from its mark and its number
 unfoldable pub sequenceFrom : Bool → ℕ → SequenceNumber
-sequenceFrom sequenced n = ifOn sequenced (Number n) Absent
+sequenceFrom sequenced number = ifOn sequenced (Number number) Absent
 
 -- an address from its kind and its number; a short one has 16 bits
 unfoldable pub sourceFrom : Bool → ℕ → Address
-sourceFrom extended n = ifOn extended (Extended n) (Short (n % 2 ^ 16))
+sourceFrom extended number = ifOn extended (Extended number) (Short (number % 2 ^ 16))
 
 -- the record of a form
 unfoldable pub beaconOf : BeaconForm → Beacon
@@ -75,8 +75,8 @@ isBeacon form = (form .sequenced || eqb (form .sequence) 0) && (form .extended |
 
 -- a source address has the bytes that its kind has
 unfoldable pub sourceFits : Address → Bool
-sourceFits (Short n) = ltb n (2 ^ 16)
-sourceFits (Extended n) = ltb n (2 ^ 64)
+sourceFits (Short number) = ltb number (2 ^ 16)
+sourceFits (Extended number) = ltb number (2 ^ 64)
 
 -- a record whose source fits has a form that is a record's, and is the record of that form
 abbrev pub FormsGiveTheRecord : Type 0

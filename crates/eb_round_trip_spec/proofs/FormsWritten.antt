@@ -1,32 +1,32 @@
--- The form of a record that was read can be written. Assumes nothing.
+-- The form of a record that was read can be written, and a form that is written reads back. Assumes nothing.
 use Prim.Native.Nat.{ℕ, _<_, _≤_}
 use mathlib.Core.Path.{_≡_, refl, sym, _∙_, ap}
-use mathlib.Core.Bool.{Bool, true, false, cond, and-false}
+use mathlib.Core.Bool.{true, and-false}
 use mathlib.Core.List.{List}
 use native.Mathlib.Omega.{arith}
 use lib.ListN.{length}
 use Rattle.octets_spec.proofs.ChoiceLaws.{if-on, if-eq, if-ne}
 use Rattle.eb_record_spec.specs.declared.Beacon.{Beacon}
+use Rattle.eb_record_spec.specs.declared.BeaconForm.{BeaconForm}
 use Rattle.eb_record_spec.specs.Form.{formOf, beaconOf, isBeacon, sourceFits}
-use Rattle.eb_record_spec.proofs.FormLaws.{forms-give-the-record}
+use Rattle.eb_record_spec.proofs.FormLaws.{forms-give-the-record, records-give-the-form}
 use Rattle.eb_write_spec.specs.declared.Written.{Written}
 use Rattle.eb_write_spec.specs.Frame.{frameOf}
 use Rattle.eb_write_spec.specs.Limits.{fits}
 use Rattle.eb_write_spec.specs.Write.{writtenNumber, writtenIn}
-use Rattle.eb_write_spec.specs.Form.{formWritten}
+use Rattle.eb_write_spec.specs.Form.{formFits, formWritten}
 use Rattle.eb_write_spec.proofs.LengthLaws.{on}
-use Rattle.eb_write_spec.proofs.Claimed.{write-numbers}
+use Rattle.eb_write_spec.proofs.Claimed.{write-numbers, form-numbers, differ}
 use Rattle.eb_read_spec.specs.Read.{readFrame}
+use Rattle.eb_read_spec.specs.declared.ReadAnswer.{ReadAnswer}
 use Rattle.eb_read_spec.specs.Witnesses.{shortest}
-use Rattle.eb_read_spec.proofs.Witnessed.{shortest-done, shortest-bytes}
+use Rattle.eb_read_spec.proofs.Witnessed.{shortest-is-read, shortest-done, shortest-bytes}
+use Rattle.eb_round_trip_spec.specs.ReadBack.{Sized, FormsReadBack}
 use Rattle.eb_round_trip_spec.specs.Accepted.{ReadFormsAreWritten, ShortestFormIsWritten}
+use Rattle.eb_round_trip_spec.proofs.ReadsBack.{frames-read-back}
 use Rattle.eb_round_trip_spec.proofs.Fits.{accepted-fits}
 use Rattle.eb_round_trip_spec.proofs.NotLonger.{written-is-not-longer, written-is-short}
 use Rattle.eb_round_trip_spec.proofs.Witness.{shortest-is-written-back}
-
--- on and off differ
-differ : true ≡ false → ⊥
-differ e = let same : _≡_ {A = ℕ} 1 0 = ap (λ (t : Bool). cond t 1 0) e in omega arith
 
 module _ (beacon : Beacon) (within : fits beacon ≡ true) where
   source-fits : sourceFits (beacon .source) ≡ true
@@ -63,6 +63,19 @@ module _ (beacon : Beacon) (within : fits beacon ≡ true) where
       let number = write-numbers beacon buffer .2 .1 (within, short, over) in
       form-as-record buffer ∙ rw number (ap (λ (n : ℕ). record { number = 9; length = n }) (sym (if-ne (length (frameOf beacon)) 0 9 0 (λ (e : 9 ≡ 0). omega arith) refl)))
 
+-- ---- forms and what is read
+beacon-part : (form : BeaconForm) → formFits form ≡ true → (isBeacon form ≡ true) × (fits (beaconOf form) ≡ true)
+unfolding formFits
+beacon-part form within =
+    (on (isBeacon form) (λ h. simp h at within), on (fits (beaconOf form)) (λ h. simp (h, and-false) at within))
+
+pub forms-read-back : FormsReadBack
+forms-read-back form buffer sized done =
+    let can = form-numbers form buffer .3 .0 done in
+    let parts = beacon-part form (can .0) in
+    let back = frames-read-back (beaconOf form) (record { sized = sized; within = parts .1; short = can .1 }) in
+    (ap (λ (answer : ReadAnswer). answer .number) back, ap (λ (answer : ReadAnswer). formOf (answer .beacon)) back ∙ records-give-the-form form (parts .0))
+
 pub read-forms-are-written : ReadFormsAreWritten
 read-forms-are-written s bytes done =
     let beacon : Beacon = readFrame s .beacon in
@@ -80,6 +93,7 @@ shortest-form-is-written =
     let within = accepted-fits shortest shortest-bytes shortest-done in
     let long : length (frameOf beacon) ≡ 38 = rw (shortest-is-written-back .2) in
     let short : length (frameOf beacon) ≤ 125 = omega (arith, long) in (
+      rw (forms-give-the-record beacon (source-fits beacon within) .1, shortest-is-read .0) (record { timings = refl; links = refl; network = refl }),
       done-in beacon within short 38 (omega (arith, long)) ∙ ap (λ (n : ℕ). record { number = 0; length = n }) long,
       refused-in beacon within short 37 (omega (arith, long)),
     )

@@ -6,13 +6,14 @@ use mathlib.Core.List.{List}
 use lib.ListN.{length}
 use Rattle.refusal.specs.Refusal.{done, frameTooLong, outOfLimits, bufferTooShort}
 use Rattle.eb_record_spec.specs.declared.BeaconForm.{BeaconForm}
-use Rattle.eb_record_spec.specs.Form.{formOf, isBeacon}
+use Rattle.eb_record_spec.specs.Form.{formOf, beaconOf, isBeacon}
 use Rattle.eb_read_spec.specs.Read.{readFrame}
 use Rattle.eb_read_spec.specs.Claims.{Bytes}
 use Rattle.eb_read_spec.specs.Witnesses.{shortest}
 use Rattle.eb_write_spec.specs.Frame.{frameOf}
 use Rattle.eb_write_spec.specs.Limits.{fits}
 use Rattle.eb_write_spec.specs.Form.{formWritten}
+use Rattle.eb_round_trip_spec.specs.ReadBack.{Sized}
 
 -- every record that reading accepts is within the limits of writing
 abbrev pub AcceptedFits : Type 0
@@ -41,8 +42,11 @@ ReadFormsAreWritten =
     × ((buffer : ℕ) → formWritten form buffer .number ≡ frameTooLong → ⊥)
     × ((buffer : ℕ) → length s ≤ buffer → formWritten form buffer ≡ record { number = done; length = length (frameOf (readFrame s .beacon)) })
 
--- so is that of the 38 bytes: in a buffer of 38 bytes it is written, in one of 37 it is refused for the buffer
+-- so is that of the 38 bytes, as the claims on forms ask: its arrays have their sizes; in a buffer of 38 bytes it is written, in one of 37
+-- it is refused for the buffer
 abbrev pub ShortestFormIsWritten : Type 0
 ShortestFormIsWritten =
     let form : BeaconForm = formOf (readFrame shortest .beacon) in
-    (formWritten form 38 ≡ record { number = done; length = 38 }) × (formWritten form 37 ≡ record { number = bufferTooShort; length = 0 })
+    Sized (beaconOf form)
+    × (formWritten form 38 ≡ record { number = done; length = 38 })
+    × (formWritten form 37 ≡ record { number = bufferTooShort; length = 0 })

@@ -9,7 +9,7 @@ use Rattle.eb_write_spec.specs.Write.{writtenNumber}
 
 -- a reading that is done and gives this record
 abbrev pub readAs : Beacon → ReadAnswer
-readAs b = record { number = done; beacon = b }
+readAs beacon = record { number = done; beacon = beacon }
 
 -- a refusal: its number with the blank record
 abbrev pub refusedAs : ℕ → ReadAnswer
@@ -17,4 +17,4 @@ refusedAs number = record { number = number; beacon = blankBeacon }
 
 -- what comes back from a buffer of this length: the record itself if it is written, and else the number of the refusal with the blank record
 unfoldable pub backFrom : Beacon → ℕ → ReadAnswer
-backFrom b buffer = ifEq (writtenNumber b buffer) done (readAs b) (record { number = writtenNumber b buffer; beacon = blankBeacon })
+backFrom beacon buffer = ifEq (writtenNumber beacon buffer) done (readAs beacon) (record { number = writtenNumber beacon buffer; beacon = blankBeacon })

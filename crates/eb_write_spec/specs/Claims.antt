@@ -1,24 +1,34 @@
--- What holds of writing every record (docs/RULES.md, Writing). Assumes nothing.
+-- What holds of writing every record, and every form of one (docs/RULES.md, Writing). Assumes nothing.
 use Prim.Native.Nat.{ℕ, _<_, _≤_}
 use mathlib.Core.Path.{_≡_}
-use mathlib.Core.Bool.{true, false}
+use mathlib.Core.Bool.{Bool, true, false}
 use lib.ListN.{length}
 use Rattle.refusal.specs.Refusal.{done, frameTooLong, outOfLimits, bufferTooShort}
 use Rattle.eb_record_spec.specs.declared.Beacon.{Beacon}
+use Rattle.eb_record_spec.specs.declared.BeaconForm.{BeaconForm}
+use Rattle.eb_record_spec.specs.Form.{beaconOf}
 use Rattle.eb_write_spec.specs.Frame.{frameOf}
 use Rattle.eb_write_spec.specs.Limits.{fits}
 use Rattle.eb_write_spec.specs.Write.{writtenNumber}
+use Rattle.eb_write_spec.specs.Form.{formFits, formWritten}
 
--- a number is given exactly when a condition holds
-abbrev pub GivenWhen : ℕ → Beacon → ℕ → Type 0 → Type 0
-GivenWhen number b buffer condition = (writtenNumber b buffer ≡ number → condition) × (condition → writtenNumber b buffer ≡ number)
+-- the number given is this one exactly when a condition holds
+abbrev pub GivenWhen : ℕ → ℕ → Type 0 → Type 0
+GivenWhen given number condition = (given ≡ number → condition) × (condition → given ≡ number)
 
--- when each number is given: the record is outside the limits; else the frame is longer than 125 bytes; else the buffer is shorter than
--- the frame; else the frame is written
+-- when each number is given, by whether the record is within the limits, the bytes of its frame and those of the buffer: the record is
+-- outside the limits; else the frame is longer than 125 bytes; else the buffer is shorter than the frame; else the frame is written
+abbrev pub EachWhen : ℕ → Bool → ℕ → ℕ → Type 0
+EachWhen given within bytes buffer =
+    GivenWhen given outOfLimits (within ≡ false)
+    × GivenWhen given frameTooLong ((within ≡ true) × (125 < bytes))
+    × GivenWhen given bufferTooShort ((within ≡ true) × (bytes ≤ 125) × (buffer < bytes))
+    × GivenWhen given done ((within ≡ true) × (bytes ≤ 125) × (bytes ≤ buffer))
+
+-- the numbers of writing a record
 abbrev pub WriteNumbers : Type 0
-WriteNumbers =
-    (b : Beacon) (buffer : ℕ) →
-    GivenWhen outOfLimits b buffer (fits b ≡ false)
-    × GivenWhen frameTooLong b buffer ((fits b ≡ true) × (125 < length (frameOf b)))
-    × GivenWhen bufferTooShort b buffer ((fits b ≡ true) × (length (frameOf b) ≤ 125) × (buffer < length (frameOf b)))
-    × GivenWhen done b buffer ((fits b ≡ true) × (length (frameOf b) ≤ 125) × (length (frameOf b) ≤ buffer))
+WriteNumbers = (beacon : Beacon) (buffer : ℕ) → EachWhen (writtenNumber beacon buffer) (fits beacon) (length (frameOf beacon)) buffer
+
+-- those of writing from a form
+abbrev pub FormNumbers : Type 0
+FormNumbers = (form : BeaconForm) (buffer : ℕ) → EachWhen (formWritten form buffer .number) (formFits form) (length (frameOf (beaconOf form))) buffer

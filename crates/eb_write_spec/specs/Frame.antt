@@ -57,22 +57,22 @@ broadcast = 65535
 -- the bit of frame control that says that the sequence number is suppressed
 unfoldable pub suppressedBit : SequenceNumber → ℕ
 suppressedBit Absent = 1
-suppressedBit (Number n) = 0
+suppressedBit (Number number) = 0
 
 -- the byte of the sequence number, if it is there
 unfoldable pub sequenceBytes : SequenceNumber → List ℕ
 sequenceBytes Absent = []
-sequenceBytes (Number n) = leBytes 1 n
+sequenceBytes (Number number) = leBytes 1 number
 
 -- the source's addressing mode: 2 short, 3 extended
 unfoldable pub sourceMode : Address → ℕ
-sourceMode (Short n) = 2
-sourceMode (Extended n) = 3
+sourceMode (Short number) = 2
+sourceMode (Extended number) = 3
 
 -- the source's bytes
 unfoldable pub sourceBytes : Address → List ℕ
-sourceBytes (Short n) = leBytes 2 n
-sourceBytes (Extended n) = leBytes 8 n
+sourceBytes (Short number) = leBytes 2 number
+sourceBytes (Extended number) = leBytes 8 number
 
 -- frame control: type 0, PAN ID compression, elements present, destination short, version 2; all that is ignored on reading is 0
 unfoldable pub controlWord : SequenceNumber → Address → ℕ
@@ -84,7 +84,7 @@ macHeaderBytes sequence pan source = leBytes 2 (controlWord sequence source) ++ 
 
 -- those of a record
 abbrev pub beaconMacHeader : Beacon → List ℕ
-beaconMacHeader b = macHeaderBytes (b .sequence) (b .pan) (b .source)
+beaconMacHeader beacon = macHeaderBytes (beacon .sequence) (beacon .pan) (beacon .source)
 
 -- ---- descriptors
 -- the descriptor of a header element: bits 0-6 length, 7-14 ID
@@ -107,16 +107,16 @@ longDescriptor id size = leBytes 2 (size + id * 2 ^ 11 + 2 ^ 15)
 -- the numbers of a list one after the other, each in so many bytes
 unfoldable pub numbersIn : ℕ → List ℕ → List ℕ
 numbersIn width [] = []
-numbersIn width (n ∷ ns) = leBytes width n ++ numbersIn width ns
+numbersIn width (number ∷ numbers) = leBytes width number ++ numbersIn width numbers
 
 -- synchronization: ASN (5 bytes), join metric
 unfoldable pub synchronizationBytes : Synchronization → List ℕ
-synchronizationBytes y = shortDescriptor synchronizationId 6 ++ (leBytes 5 (y .asn) ++ leBytes 1 (y .metric))
+synchronizationBytes synchronization = shortDescriptor synchronizationId 6 ++ (leBytes 5 (synchronization .asn) ++ leBytes 1 (synchronization .metric))
 
 -- the bytes of each of the last two timings: 2 if both fit, else 3
 unfoldable pub lastWidth : List ℕ → ℕ
 lastWidth [] = 2
-lastWidth (n ∷ ns) = ifLt n 65536 (lastWidth ns) 3
+lastWidth (number ∷ numbers) = ifLt number 65536 (lastWidth numbers) 3
 
 -- the timings: ten of 2 bytes and two of 2 or 3
 unfoldable pub timingsBytes : List ℕ → List ℕ
@@ -124,11 +124,11 @@ timingsBytes timings = numbersIn 2 (take 10 timings) ++ numbersIn (lastWidth (dr
 
 -- the size of the timeslot element behind its descriptor: 1, 25 or 27
 unfoldable pub templateSize : TimeslotTemplate → ℕ
-templateSize t = ifOn (t .timed) (21 + 2 * lastWidth (drop 10 (t .timings))) 1
+templateSize template = ifOn (template .timed) (21 + 2 * lastWidth (drop 10 (template .timings))) 1
 
 -- timeslot: template ID, then nothing or the timings
 unfoldable pub templateBytes : TimeslotTemplate → List ℕ
-templateBytes t = shortDescriptor timeslotId (templateSize t) ++ (leBytes 1 (t .id) ++ ifOn (t .timed) (timingsBytes (t .timings)) [])
+templateBytes template = shortDescriptor timeslotId (templateSize template) ++ (leBytes 1 (template .id) ++ ifOn (template .timed) (timingsBytes (template .timings)) [])
 
 -- hopping: the sequence ID
 unfoldable pub hoppingBytes : ℕ → List ℕ
@@ -136,18 +136,18 @@ hoppingBytes id = longDescriptor hoppingId 1 ++ leBytes 1 id
 
 -- a link: timeslot, channel offset, options
 unfoldable pub linkBytes : Link → List ℕ
-linkBytes l = leBytes 2 (l .timeslot) ++ (leBytes 2 (l .«channel_offset») ++ leBytes 1 (l .options))
+linkBytes link = leBytes 2 (link .timeslot) ++ (leBytes 2 (link .«channel_offset») ++ leBytes 1 (link .options))
 
 -- links one after the other
 unfoldable pub linksBytes : List Link → List ℕ
 linksBytes [] = []
-linksBytes (l ∷ ls) = linkBytes l ++ linksBytes ls
+linksBytes (link ∷ links) = linkBytes link ++ linksBytes links
 
 -- slotframe and link: slotframe count 1, handle, size, number of links, the links
 unfoldable pub slotframeBytes : Slotframe → List ℕ
-slotframeBytes f =
-    shortDescriptor slotframeId (5 + 5 * f .count)
-    ++ (leBytes 1 1 ++ (leBytes 1 (f .handle) ++ (leBytes 2 (f .size) ++ (leBytes 1 (f .count) ++ linksBytes (take (f .count) (f .links))))))
+slotframeBytes slotframe =
+    shortDescriptor slotframeId (5 + 5 * slotframe .count)
+    ++ (leBytes 1 1 ++ (leBytes 1 (slotframe .handle) ++ (leBytes 2 (slotframe .size) ++ (leBytes 1 (slotframe .count) ++ linksBytes (take (slotframe .count) (slotframe .links))))))
 
 -- the size of the MLME group behind its descriptor, with a timeslot element and so many links
 unfoldable pub groupSize : TimeslotTemplate → ℕ → ℕ
@@ -161,38 +161,38 @@ groupBytes synchronization timeslot hopping slotframe =
 
 -- the size of a record's group
 abbrev pub beaconGroupSize : Beacon → ℕ
-beaconGroupSize b = groupSize (b .timeslot) (b .slotframe .count)
+beaconGroupSize beacon = groupSize (beacon .timeslot) (beacon .slotframe .count)
 
 -- a record's group
 abbrev pub beaconGroup : Beacon → List ℕ
-beaconGroup b = groupBytes (b .synchronization) (b .timeslot) (b .hopping) (b .slotframe)
+beaconGroup beacon = groupBytes (beacon .synchronization) (beacon .timeslot) (beacon .hopping) (beacon .slotframe)
 
 -- a truth value as a bit
 abbrev pub flag : Bool → ℕ
-flag b = ifOn b 1 0
+flag set = ifOn set 1 0
 
 -- the flags and priorities of joining information, most significant bit first: R, P, reserved, proxy, rank and PAN priority
 unfoldable pub joiningWord : JoiningInformation → ℕ
-joiningWord j = flag (j .router) * 2 ^ 31 + flag (j .proxied) * 2 ^ 30 + j .proxy * 2 ^ 20 + j .rank * 2 ^ 8 + j .pan
+joiningWord joining = flag (joining .router) * 2 ^ 31 + flag (joining .proxied) * 2 ^ 30 + joining .proxy * 2 ^ 20 + joining .rank * 2 ^ 8 + joining .pan
 
 -- its size behind its descriptor: subtype, flags and priorities, the address if P, the network ID
 unfoldable pub joiningSize : JoiningInformation → ℕ
-joiningSize j = 5 + 8 * flag (j .proxied) + j .length
+joiningSize joining = 5 + 8 * flag (joining .proxied) + joining .length
 
 -- joining information, if it is there: an IETF group with subtype 2; the address if P; the network ID
 unfoldable pub joiningBytes : JoiningInformation → List ℕ
-joiningBytes j =
-    ifOn (j .present)
-    (groupDescriptor ietfGroup (joiningSize j) ++ (leBytes 1 joiningSubtype ++ (beBytes 4 (joiningWord j) ++ (ifOn (j .proxied) (beBytes 8 (j .address)) [] ++ take (j .length) (j .network)))))
+joiningBytes joining =
+    ifOn (joining .present)
+    (groupDescriptor ietfGroup (joiningSize joining) ++ (leBytes 1 joiningSubtype ++ (beBytes 4 (joiningWord joining) ++ (ifOn (joining .proxied) (beBytes 8 (joining .address)) [] ++ take (joining .length) (joining .network)))))
     []
 
 -- ---- the frame
 -- the frame: the header list is header termination 1 alone, and no payload terminator follows the elements
 unfoldable pub frameOf : Beacon → List ℕ
-frameOf b = beaconMacHeader b ++ (headerDescriptor headerTermination1 0 ++ (beaconGroup b ++ joiningBytes (b .joining)))
+frameOf beacon = beaconMacHeader beacon ++ (headerDescriptor headerTermination1 0 ++ (beaconGroup beacon ++ joiningBytes (beacon .joining)))
 
 -- its length as a formula of the record
 unfoldable pub frameLength : Beacon → ℕ
-frameLength b =
-    8 + length (sequenceBytes (b .sequence)) + length (sourceBytes (b .source))
-    + (2 + beaconGroupSize b) + ifOn (b .joining .present) (2 + joiningSize (b .joining)) 0
+frameLength beacon =
+    8 + length (sequenceBytes (beacon .sequence)) + length (sourceBytes (beacon .source))
+    + (2 + beaconGroupSize beacon) + ifOn (beacon .joining .present) (2 + joiningSize (beacon .joining)) 0

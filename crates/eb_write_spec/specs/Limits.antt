@@ -23,75 +23,75 @@ allOf test (x ∷ xs) = test x && allOf test xs
 
 -- every number of a list is below a bound; below 1 it is zero
 unfoldable pub allBelow : ℕ → List ℕ → Bool
-allBelow bound ns = allOf (λ n. ltb n bound) ns
+allBelow bound numbers = allOf (λ number. ltb number bound) numbers
 
 -- a sequence number has one byte
 unfoldable pub sequenceFits : SequenceNumber → Bool
 sequenceFits Absent = true
-sequenceFits (Number n) = ltb n 256
+sequenceFits (Number number) = ltb number 256
 
 -- the ASN has 5 bytes
 unfoldable pub synchronizationFits : Synchronization → Bool
-synchronizationFits y = ltb (y .asn) (2 ^ 40) && ltb (y .metric) 256
+synchronizationFits synchronization = ltb (synchronization .asn) (2 ^ 40) && ltb (synchronization .metric) 256
 
 -- with timings, the first ten are below 2^16 and the last two below 2^24; the ID alone must be 0, and its timings are unused
 unfoldable pub templateFits : TimeslotTemplate → Bool
-templateFits t =
-    ltb (t .id) 256
-    && ifOn (t .timed)
-    (allBelow (2 ^ 16) (take 10 (t .timings)) && allBelow (2 ^ 24) (drop 10 (t .timings)))
-    (eqb (t .id) 0 && allBelow 1 (t .timings))
+templateFits template =
+    ltb (template .id) 256
+    && ifOn (template .timed)
+    (allBelow (2 ^ 16) (take 10 (template .timings)) && allBelow (2 ^ 24) (drop 10 (template .timings)))
+    (eqb (template .id) 0 && allBelow 1 (template .timings))
 
 -- a link's timeslot is below the size, and its options have one byte
 unfoldable pub linkFits : ℕ → Link → Bool
-linkFits size l = ltb (l .timeslot) size && (ltb (l .«channel_offset») (2 ^ 16) && ltb (l .options) 256)
+linkFits size link = ltb (link .timeslot) size && (ltb (link .«channel_offset») (2 ^ 16) && ltb (link .options) 256)
 
 -- an unused link is all zero
 unfoldable pub linkUnused : Link → Bool
-linkUnused l = eqb (l .timeslot) 0 && (eqb (l .«channel_offset») 0 && eqb (l .options) 0)
+linkUnused link = eqb (link .timeslot) 0 && (eqb (link .«channel_offset») 0 && eqb (link .options) 0)
 
 -- size at least 1, 1 to 16 links, and the links behind them unused
 unfoldable pub slotframeFits : Slotframe → Bool
-slotframeFits f =
-    ltb (f .handle) 256
-    && (ltb 0 (f .size) && (ltb (f .size) (2 ^ 16)
-    && (ltb 0 (f .count) && (ltb (f .count) 17
-    && (allOf (linkFits (f .size)) (take (f .count) (f .links))
-    && allOf linkUnused (drop (f .count) (f .links)))))))
+slotframeFits slotframe =
+    ltb (slotframe .handle) 256
+    && (ltb 0 (slotframe .size) && (ltb (slotframe .size) (2 ^ 16)
+    && (ltb 0 (slotframe .count) && (ltb (slotframe .count) 17
+    && (allOf (linkFits (slotframe .size)) (take (slotframe .count) (slotframe .links))
+    && allOf linkUnused (drop (slotframe .count) (slotframe .links)))))))
 
 -- the address is unused if P is not set
 unfoldable pub addressFits : JoiningInformation → Bool
-addressFits j = ifOn (j .proxied) (ltb (j .address) (2 ^ 64)) (eqb (j .address) 0)
+addressFits joining = ifOn (joining .proxied) (ltb (joining .address) (2 ^ 64)) (eqb (joining .address) 0)
 
 -- proxy priority 7 bits, rank priority 12, PAN priority 8, a network ID of 0 to 16 bytes, and the bytes behind it unused
 unfoldable pub presentFits : JoiningInformation → Bool
-presentFits j =
-    ltb (j .proxy) 128
-    && (ltb (j .rank) 4096 && (ltb (j .pan) 256
-    && (addressFits j
-    && (ltb (j .length) 17
-    && (allBelow 256 (take (j .length) (j .network))
-    && allBelow 1 (drop (j .length) (j .network)))))))
+presentFits joining =
+    ltb (joining .proxy) 128
+    && (ltb (joining .rank) 4096 && (ltb (joining .pan) 256
+    && (addressFits joining
+    && (ltb (joining .length) 17
+    && (allBelow 256 (take (joining .length) (joining .network))
+    && allBelow 1 (drop (joining .length) (joining .network)))))))
 
 -- absent joining information is unused as a whole
 unfoldable pub absentFits : JoiningInformation → Bool
-absentFits j =
-    not (j .router)
-    && (not (j .proxied)
-    && (eqb (j .proxy) 0 && (eqb (j .rank) 0 && (eqb (j .pan) 0 && (eqb (j .address) 0 && (eqb (j .length) 0 && allBelow 1 (j .network)))))))
+absentFits joining =
+    not (joining .router)
+    && (not (joining .proxied)
+    && (eqb (joining .proxy) 0 && (eqb (joining .rank) 0 && (eqb (joining .pan) 0 && (eqb (joining .address) 0 && (eqb (joining .length) 0 && allBelow 1 (joining .network)))))))
 
 -- joining information, there or not
 unfoldable pub joiningFits : JoiningInformation → Bool
-joiningFits j = ifOn (j .present) (presentFits j) (absentFits j)
+joiningFits joining = ifOn (joining .present) (presentFits joining) (absentFits joining)
 
 -- a record within the limits
 unfoldable pub fits : Beacon → Bool
-fits b =
-    sequenceFits (b .sequence)
-    && (ltb (b .pan) (2 ^ 16)
-    && (sourceFits (b .source)
-    && (synchronizationFits (b .synchronization)
-    && (templateFits (b .timeslot)
-    && (ltb (b .hopping) 256
-    && (slotframeFits (b .slotframe)
-    && joiningFits (b .joining)))))))
+fits beacon =
+    sequenceFits (beacon .sequence)
+    && (ltb (beacon .pan) (2 ^ 16)
+    && (sourceFits (beacon .source)
+    && (synchronizationFits (beacon .synchronization)
+    && (templateFits (beacon .timeslot)
+    && (ltb (beacon .hopping) 256
+    && (slotframeFits (beacon .slotframe)
+    && joiningFits (beacon .joining)))))))

@@ -12,4 +12,4 @@ allFrom test xs from to = allOf test (drop from (take to xs))
 
 -- a number is below a bound
 unfoldable pub below : ℕ → ℕ → Bool
-below bound n = ltb n bound
+below bound number = ltb number bound

@@ -11,17 +11,17 @@ use Rattle.eb_write_spec.specs.declared.Written.{Written}
 
 -- the number for a buffer of this length: the limits first, then the frame's length, then the buffer's
 unfoldable pub writtenNumber : Beacon → ℕ → ℕ
-writtenNumber b buffer =
-    ifOn (fits b)
-    (ifLt 125 (length (frameOf b)) frameTooLong
-    (ifLt buffer (length (frameOf b)) bufferTooShort
+writtenNumber beacon buffer =
+    ifOn (fits beacon)
+    (ifLt 125 (length (frameOf beacon)) frameTooLong
+    (ifLt buffer (length (frameOf beacon)) bufferTooShort
     done))
     outOfLimits
 
 -- the answer: the number and the frame's length, which is 0 on a refusal
 unfoldable pub writtenIn : Beacon → ℕ → Written
-writtenIn b buffer = record { number = writtenNumber b buffer; length = ifEq (writtenNumber b buffer) done (length (frameOf b)) 0 }
+writtenIn beacon buffer = record { number = writtenNumber beacon buffer; length = ifEq (writtenNumber beacon buffer) done (length (frameOf beacon)) 0 }
 
 -- the buffer afterwards: the frame at its start and the rest as it was, or as a whole as it was
 unfoldable pub bufferAfter : Beacon → List ℕ → List ℕ
-bufferAfter b buffer = ifEq (writtenNumber b (length buffer)) done (frameOf b ++ drop (length (frameOf b)) buffer) buffer
+bufferAfter beacon buffer = ifEq (writtenNumber beacon (length buffer)) done (frameOf beacon ++ drop (length (frameOf beacon)) buffer) buffer

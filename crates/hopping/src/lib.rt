@@ -1,6 +1,6 @@
 // The channel rule: on which channel a link is used in a slot.
 ghost use mathlib.Core.Path.{_≡_};
-ghost use Rattle.hopping.specs.Hopping.{channelOf, HoppingPermutes};
+ghost use Rattle.slot_spec.specs.Hopping.{channelOf, HoppingPermutes};
 
 // The default hopping sequence of IEEE 802.15.4-2015 for the 16 channels of the 2.4 GHz band.
 const SEQUENCE: [u8; 16] = [

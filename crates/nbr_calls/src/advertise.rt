@@ -1,21 +1,26 @@
 // Advertise: sets a neighbour's rank, or adds the neighbour. The rules are those of docs/RULES.md, Neighbours.
+use crate::refuse;
 use nbr_metric_spec::Place;
-use nbr_places_spec::search::find;
-use nbr_places_spec::search::find_free;
+use nbr_table::search::find;
+use nbr_table::search::find_free;
 use nbr_table::table_store::with_place;
 use nbr_table_spec::Answer;
+use nbr_table_spec::Change;
+use nbr_table_spec::PLACES;
 use nbr_table_spec::Table;
+use refusal::DONE;
 use refusal::OUT_OF_LIMITS;
 use refusal::TABLE_FULL;
 ghost use mathlib.Core.Path.{_≡_};
 ghost use Rattle.nbr_table_spec.specs.Calls.{advertised};
 ghost use Rattle.nbr_table_spec.specs.Changes.{newcomer as newPlace, withRank};
+ghost use Rattle.nbr_table_spec.specs.Stores.{advertising as advertisingOf};
 
 // A place with another rank.
-fn with_rank(p: Place, rank: u16) -> Place
-    ensures { λ r. ⌜ r ≡ withRank rank p ⌝ }
+fn with_rank(place: Place, rank: u16) -> Place
+    ensures { λ r. ⌜ r ≡ withRank rank place ⌝ }
 {
-    let mut changed = p;
+    let mut changed = place;
     changed.rank = rank;
     changed
 }
@@ -24,41 +29,53 @@ fn with_rank(p: Place, rank: u16) -> Place
 fn newcomer(id: u64, rank: u16) -> Place
     ensures { λ r. ⌜ r ≡ newPlace id rank ⌝ }
 {
-    let mut q = nbr_metric_spec::blank();
-    q.id = id;
-    q.rank = rank;
-    q.used = true;
-    q
+    let mut added = nbr_metric_spec::blank();
+    added.id = id;
+    added.rank = rank;
+    added.used = true;
+    added
+}
+
+// What an advertisement stores, on places that break no rule; without a free place for a new neighbour it is refused with 11.
+pub fn advertising(places: [Place; 32], id: u64, rank: u16) -> Change
+    ensures { λ r. ⌜ r ≡ advertisingOf places id rank ⌝ }
+{
+    let at = find(places, 0, id);
+    if at < PLACES {
+        return Change {
+            number: DONE,
+            at,
+            place: with_rank(places[at], rank),
+        };
+    }
+    let unused = find_free(places);
+    if unused < PLACES {
+        return Change {
+            number: DONE,
+            at: unused,
+            place: newcomer(id, rank),
+        };
+    }
+    refuse(TABLE_FULL)
 }
 
 // Sets a neighbour's rank, or adds the neighbour in the lowest-numbered free place. A table that breaks a rule is refused with
 // 8, and one without a free place for a new neighbour with 11.
-pub fn advertise(t: Table, id: u64, rank: u16) -> Answer
-    ensures { λ r. ⌜ r ≡ advertised t id rank ⌝ }
+pub fn advertise(table: Table, id: u64, rank: u16) -> Answer
+    ensures { λ r. ⌜ r ≡ advertised table id rank ⌝ }
 {
-    if nbr_table::is_broken(t) {
+    let places = table.places;
+    let parent = table.parent;
+    if nbr_table::is_broken(places, parent) {
         return Answer {
             number: OUT_OF_LIMITS,
-            table: t,
+            table,
         };
     }
-    let ps = t.places;
-    let i = find(ps, 0, id);
-    if i < 32 {
-        return Answer {
-            number: 0,
-            table: with_place(t, i, with_rank(ps[i], rank)),
-        };
-    }
-    let j = find_free(ps);
-    if j < 32 {
-        return Answer {
-            number: 0,
-            table: with_place(t, j, newcomer(id, rank)),
-        };
-    }
+    let change = advertising(places, id, rank);
+    let place = change.place;
     Answer {
-        number: TABLE_FULL,
-        table: t,
+        number: change.number,
+        table: with_place(table, change.at, place),
     }
 }

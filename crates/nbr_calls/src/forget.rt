@@ -1,52 +1,68 @@
 // Forget: removes a neighbour. The rules are those of docs/RULES.md, Neighbours.
-use nbr_places_spec::search::find;
+use crate::refuse;
+use nbr_metric_spec::Place;
+use nbr_table::search::find;
 use nbr_table::table_store::with_parent;
 use nbr_table::table_store::with_place;
 use nbr_table_spec::Answer;
+use nbr_table_spec::Change;
+use nbr_table_spec::PLACES;
 use nbr_table_spec::Parent;
 use nbr_table_spec::Table;
+use refusal::DONE;
 use refusal::OUT_OF_LIMITS;
 use refusal::UNKNOWN_NEIGHBOUR;
 ghost use mathlib.Core.Path.{_≡_};
 ghost use Rattle.nbr_table_spec.specs.Calls.{forgotten, without as withoutParent};
+ghost use Rattle.nbr_table_spec.specs.Stores.{forgetting as forgettingOf};
 
 // The held parent once this neighbour is removed.
-fn without(q: Parent, id: u64) -> Parent
-    ensures { λ r. ⌜ r ≡ withoutParent id q ⌝ }
+pub fn without(parent: Parent, id: u64) -> Parent
+    ensures { λ r. ⌜ r ≡ withoutParent id parent ⌝ }
 {
-    match q {
-        Parent::Held(n) => {
-            if n == id {
+    match parent {
+        Parent::Held(held) => {
+            if held == id {
                 return Parent::None;
             }
-            Parent::Held(n)
+            Parent::Held(held)
         }
         Parent::None => Parent::None,
     }
 }
 
+// What forgetting a neighbour stores, on places that break no rule; an unknown neighbour is refused with 10.
+pub fn forgetting(places: [Place; 32], id: u64) -> Change
+    ensures { λ r. ⌜ r ≡ forgettingOf places id ⌝ }
+{
+    let at = find(places, 0, id);
+    if at < PLACES {
+        return Change {
+            number: DONE,
+            at,
+            place: nbr_metric_spec::blank(),
+        };
+    }
+    refuse(UNKNOWN_NEIGHBOUR)
+}
+
 // Removes a neighbour; its place is free again, and a held parent so removed becomes none. A table that breaks a rule is refused
 // with 8, a neighbour that is not in the table with 10.
-pub fn forget(t: Table, id: u64) -> Answer
-    ensures { λ r. ⌜ r ≡ forgotten t id ⌝ }
+pub fn forget(table: Table, id: u64) -> Answer
+    ensures { λ r. ⌜ r ≡ forgotten table id ⌝ }
 {
-    if nbr_table::is_broken(t) {
+    let places = table.places;
+    let parent = table.parent;
+    if nbr_table::is_broken(places, parent) {
         return Answer {
             number: OUT_OF_LIMITS,
-            table: t,
+            table,
         };
     }
-    let ps = t.places;
-    let i = find(ps, 0, id);
-    if i < 32 {
-        let q = t.parent;
-        return Answer {
-            number: 0,
-            table: with_parent(with_place(t, i, nbr_metric_spec::blank()), without(q, id)),
-        };
-    }
+    let change = forgetting(places, id);
+    let place = change.place;
     Answer {
-        number: UNKNOWN_NEIGHBOUR,
-        table: t,
+        number: change.number,
+        table: with_parent(with_place(table, change.at, place), without(parent, id)),
     }
 }

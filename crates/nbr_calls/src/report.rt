@@ -1,9 +1,16 @@
 // Report: counts attempts to reach a neighbour. The rules are those of docs/RULES.md, Neighbours.
+use crate::refuse;
 use nbr_metric_spec::Place;
-use nbr_places_spec::search::find;
+use nbr_table::place_limits::is_unfit;
+use nbr_table::search::find;
 use nbr_table::table_store::with_place;
 use nbr_table_spec::Answer;
+use nbr_table_spec::Change;
+use nbr_table_spec::MOST_COUNTED;
+use nbr_table_spec::MOST_REPORTED;
+use nbr_table_spec::PLACES;
 use nbr_table_spec::Table;
+use refusal::DONE;
 use refusal::OUT_OF_LIMITS;
 use refusal::UNKNOWN_NEIGHBOUR;
 ghost use mathlib.Core.Path.{_≡_};
@@ -11,15 +18,16 @@ ghost use mathlib.Core.Bool.{cond};
 ghost use Prim.Native.Nat.{_≤_};
 ghost use Rattle.nbr_table_spec.specs.Calls.{reported};
 ghost use Rattle.nbr_table_spec.specs.Changes.{attempted as attemptedPlace, withCounters};
+ghost use Rattle.nbr_table_spec.specs.Stores.{reporting as reportingOf};
 
 // A place with other counters.
-fn with_counters(p: Place, attempts: u16, acked: u16) -> Place
-    ensures { λ r. ⌜ r ≡ withCounters attempts acked p ⌝ }
+fn with_counters(place: Place, attempts: u16, acked: u16) -> Place
+    ensures { λ r. ⌜ r ≡ withCounters attempts acked place ⌝ }
 {
-    let mut q = p;
-    q.attempts = attempts;
-    q.acked = acked;
-    q
+    let mut changed = place;
+    changed.attempts = attempts;
+    changed.acked = acked;
+    changed
 }
 
 // 1 where the attempts were acknowledged, else 0.
@@ -31,52 +39,62 @@ fn one_if(acked: bool) -> u16
 }
 
 // A report on a place within its limits: past 255 the counters are halved first.
-fn attempted(p: Place, attempts: u16, acked: bool) -> Place
-    requires { ⌜ (attempts ≤ 4) × (p .attempts ≤ 255) × (p .acked ≤ 255) ⌝ }
-    ensures { λ r. ⌜ r ≡ attemptedPlace attempts acked p ⌝ }
+fn attempted(place: Place, attempts: u16, acked: bool) -> Place
+    requires { ⌜ (attempts ≤ 4) × (place .attempts ≤ 255) × (place .acked ≤ 255) ⌝ }
+    ensures { λ r. ⌜ r ≡ attemptedPlace attempts acked place ⌝ }
 {
-    let t = p.attempts;
-    let a = p.acked;
+    let sent = place.attempts;
+    let heard = place.acked;
     let more = one_if(acked);
-    if 255 < t + attempts {
-        return with_counters(p, t / 2 + attempts, a / 2 + more);
+    if MOST_COUNTED < sent + attempts {
+        return with_counters(place, sent / 2 + attempts, heard / 2 + more);
     }
-    with_counters(p, t + attempts, a + more)
+    with_counters(place, sent + attempts, heard + more)
+}
+
+// What a report stores, on places that break no rule. Other numbers of attempts than 1 to 4 are refused with 8, as is a place
+// over its limits, and an unknown neighbour with 10.
+pub fn reporting(places: [Place; 32], id: u64, attempts: u32, acked: bool) -> Change
+    ensures { λ r. ⌜ r ≡ reportingOf places id attempts acked ⌝ }
+{
+    if attempts < 1 {
+        return refuse(OUT_OF_LIMITS);
+    }
+    if MOST_REPORTED < attempts {
+        return refuse(OUT_OF_LIMITS);
+    }
+    let at = find(places, 0, id);
+    if at < PLACES {
+        let place = places[at];
+        if is_unfit(place) {
+            return refuse(OUT_OF_LIMITS);
+        }
+        return Change {
+            number: DONE,
+            at,
+            place: attempted(place, attempts as u16, acked),
+        };
+    }
+    refuse(UNKNOWN_NEIGHBOUR)
 }
 
 // Counts 1 to 4 attempts to reach a neighbour, acknowledged or not. A table that breaks a rule and other numbers of attempts
 // are refused with 8, a neighbour that is not in the table with 10.
-pub fn report(t: Table, id: u64, attempts: u16, acked: bool) -> Answer
-    ensures { λ r. ⌜ r ≡ reported t id attempts acked ⌝ }
+pub fn report(table: Table, id: u64, attempts: u32, acked: bool) -> Answer
+    ensures { λ r. ⌜ r ≡ reported table id attempts acked ⌝ }
 {
-    if nbr_table::is_broken(t) {
+    let places = table.places;
+    let parent = table.parent;
+    if nbr_table::is_broken(places, parent) {
         return Answer {
             number: OUT_OF_LIMITS,
-            table: t,
+            table,
         };
     }
-    if attempts < 1 {
-        return Answer {
-            number: OUT_OF_LIMITS,
-            table: t,
-        };
-    }
-    if 4 < attempts {
-        return Answer {
-            number: OUT_OF_LIMITS,
-            table: t,
-        };
-    }
-    let ps = t.places;
-    let i = find(ps, 0, id);
-    if i < 32 {
-        return Answer {
-            number: 0,
-            table: with_place(t, i, attempted(ps[i], attempts, acked)),
-        };
-    }
+    let change = reporting(places, id, attempts, acked);
+    let place = change.place;
     Answer {
-        number: UNKNOWN_NEIGHBOUR,
-        table: t,
+        number: change.number,
+        table: with_place(table, change.at, place),
     }
 }

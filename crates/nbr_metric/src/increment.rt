@@ -4,17 +4,17 @@ ghost use Prim.Native.Nat.{_-_, _<_, _≤_, _^_};
 ghost use Rattle.nbr_metric_spec.specs.Metric.{IncrementIsCeiling, IsIncrement, increment as incrementOf};
 
 // A counter at the width in which it is multiplied.
-fn wide(x: u16) -> u32
-    ensures { λ r. ⌜ r ≡ x ⌝ }
+fn wide(counter: u16) -> u32
+    ensures { λ r. ⌜ r ≡ counter ⌝ }
 {
-    x as u32
+    counter as u32
 }
 
-// a - b, or 0 where b is the greater.
-pub fn minus(a: u32, b: u32) -> u32
-    ensures { λ r. ⌜ r ≡ a - b ⌝ }
+// The difference, or 0 where the second number is the greater.
+pub fn minus(from: u32, less: u32) -> u32
+    ensures { λ r. ⌜ r ≡ from - less ⌝ }
 {
-    if a < b { 0 } else { a - b }
+    if from < less { 0 } else { from - less }
 }
 
 // The increment of a neighbour with so many attempts and acknowledged ones: the smallest whole number not below
@@ -28,7 +28,7 @@ pub fn increment(attempts: u16, acked: u16) -> u32
     if acked == 0 {
         return 0;
     }
-    let t = wide(attempts);
-    let a = wide(acked);
-    (256 * minus(3 * t, 2 * a) + (a - 1)) / a
+    let sent = wide(attempts);
+    let heard = wide(acked);
+    (256 * minus(3 * sent, 2 * heard) + (heard - 1)) / heard
 }

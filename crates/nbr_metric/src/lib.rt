@@ -1,43 +1,57 @@
 // The path cost through a neighbour, and whether it may be a parent (docs/RULES.md, Neighbours).
+use nbr_metric_spec::HIGHEST_RANK;
+use nbr_metric_spec::MINIMUM_RANK;
+use nbr_metric_spec::NO_OFFER;
 use nbr_metric_spec::Place;
 ghost use mathlib.Core.Path.{_≡_};
-ghost use Prim.Native.Nat.{_<_, _^_};
-ghost use Rattle.nbr_metric_spec.specs.Metric.{eligible as isEligible, pathCost};
+ghost use Prim.Native.Nat.{_<_, _≤_, _^_};
+ghost use Rattle.nbr_metric_spec.specs.Metric.{eligible as isEligible, offer as offerOf, pathCost};
 
 pub mod increment;
 pub mod join_metric;
 
 // A rank or a counter at the width in which it is added and multiplied.
-fn wide(x: u16) -> u32
-    ensures { λ r. ⌜ r ≡ x ⌝ }
+fn wide(number: u16) -> u32
+    ensures { λ r. ⌜ r ≡ number ⌝ }
 {
-    x as u32
+    number as u32
 }
 
 // The path cost through a neighbour.
-pub fn path_cost(p: Place) -> u32
-    ensures answer { λ r. ⌜ r ≡ pathCost p ⌝ }
+pub fn path_cost(place: Place) -> u32
+    ensures answer { λ r. ⌜ r ≡ pathCost place ⌝ }
     ensures bound { λ r. ⌜ r < 2 ^ 30 ⌝ }
 {
-    wide(p.rank) + crate::increment::increment(p.attempts, p.acked)
+    wide(place.rank) + crate::increment::increment(place.attempts, place.acked)
+}
+
+// What a neighbour offers a node as its own rank: the path cost through it, or NO_OFFER where it may not be a parent.
+pub fn offer(place: Place) -> u32
+    ensures answer { λ r. ⌜ r ≡ offerOf place ⌝ }
+    ensures bound { λ r. ⌜ r ≤ 65535 ⌝ }
+{
+    if place.used {
+        if wide(place.rank) < MINIMUM_RANK {
+            return NO_OFFER;
+        }
+        if place.acked < 1 {
+            return NO_OFFER;
+        }
+        if 11 * wide(place.acked) < 3 * wide(place.attempts) {
+            return NO_OFFER;
+        }
+        let cost = path_cost(place);
+        if cost <= HIGHEST_RANK {
+            return cost;
+        }
+        return NO_OFFER;
+    }
+    NO_OFFER
 }
 
 // Whether a neighbour may be a parent.
-pub fn eligible(p: Place) -> bool
-    ensures { λ r. ⌜ r ≡ isEligible p ⌝ }
+pub fn eligible(place: Place) -> bool
+    ensures { λ r. ⌜ r ≡ isEligible place ⌝ }
 {
-    if p.used {
-        if p.rank < 256 {
-            return false;
-        }
-        if p.acked < 1 {
-            return false;
-        }
-        if 11 * wide(p.acked) < 3 * wide(p.attempts) {
-            return false;
-        }
-        path_cost(p) <= 65534
-    } else {
-        false
-    }
+    offer(place) < NO_OFFER
 }

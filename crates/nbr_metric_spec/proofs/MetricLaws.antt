@@ -3,13 +3,14 @@
 use Prim.Native.Nat.{ℕ, suc, _+_, _*_, _-_, _/_, _<_, _≤_}
 use native.Mathlib.Nat.{lt-div-mul-add, div-lt-iff-lt-mul, div-le-self, lt-of-mul-lt-mul-right, suc-mul}
 use native.Mathlib.Omega.{arith}
-use mathlib.Core.Path.{_≡_, refl}
+use mathlib.Core.Path.{_≡_, refl, sym, _∙_}
 use mathlib.Core.Bool.{Bool, true, false, _&&_}
-use lib.Dec.{leb}
-use borrow.Author.Tests.{le-leb, lt-leb, leb-true}
-use Rattle.octets_spec.proofs.ChoiceLaws.{if-eq, if-ne}
+use lib.Dec.{leb, ltb}
+use Rattle.octets_spec.specs.Choice.{ifOn}
+use borrow.Author.Tests.{le-leb, lt-leb, leb-true, le-ltb, lt-ltb}
+use Rattle.octets_spec.proofs.ChoiceLaws.{by-test, choices, if-eq, if-ne}
 use Rattle.nbr_metric_spec.specs.declared.Place.{Place}
-use Rattle.nbr_metric_spec.specs.Metric.{blank, IsIncrement, IncrementIsCeiling, increment, pathCost, eligible}
+use Rattle.nbr_metric_spec.specs.Metric.{blank, IsIncrement, IncrementIsCeiling, increment, pathCost, eligible, offer}
 
 -- ---- the increment
 module _ (t a : ℕ) where
@@ -116,6 +117,58 @@ module _ (p : Place) (e : eligible p ≡ true) where
     pub cost-from : 512 ≤ pathCost p
     cost-from = omega (arith, parts .1, cost-above-rank)
 
+-- ---- what a place offers
+pub blank-offers : offer blank ≡ 65535
+unfolding offer eligible ifOn
+blank-offers = refl
+
+module _ (p : Place) where
+  pub offer-eligible : eligible p ≡ true → pathCost p ≡ offer p
+  unfolding offer
+  offer-eligible e = search choices
+
+  pub offer-not : eligible p ≡ false → 65535 ≡ offer p
+  unfolding offer
+  offer-not e = search choices
+
+  -- each way out of the function
+  pub offer-free : p .used ≡ false → 65535 ≡ offer p
+  offer-free u = offer-not (sym (not-used p u))
+
+  module _ (r m n : ℕ) (u : p .used ≡ true) (d : r ≡ p .rank) where
+    pub offer-low : r < 256 → 65535 ≡ offer p
+    offer-low h = offer-not (sym (low-rank p u (omega arith)))
+
+    module _ (g : 256 ≤ r) where
+      pub offer-none : p .acked < 1 → 65535 ≡ offer p
+      offer-none h = offer-not (sym (none-acked p u (omega arith) h))
+
+      module _ (a : 1 ≤ p .acked) (e : m ≡ p .acked) (f : n ≡ p .attempts) where
+        pub offer-poor : 11 * m < 3 * n → 65535 ≡ offer p
+        offer-poor h = offer-not (sym (poor-link p m n u (omega arith) a e f h))
+
+        module _ (k : ℕ) (h : 3 * n ≤ 11 * m) (c : k ≡ pathCost p) where
+          pub offer-cost : k ≤ 65534 → k ≡ offer p
+          offer-cost l = c ∙ offer-eligible (sym (by-cost p m n u (omega arith) a e f k h c) ∙ le-leb k 65534 l)
+
+          pub offer-dear : 65534 < k → 65535 ≡ offer p
+          offer-dear l = offer-not (sym (by-cost p m n u (omega arith) a e f k h c) ∙ lt-leb k 65534 l)
+
+  pub offer-bound : (k : ℕ) → k ≡ offer p → k ≤ 65535
+  offer-bound k e = by-test (eligible p) (λ h. omega (arith, offer-eligible h, cost-to p h)) (λ h. omega (arith, offer-not h))
+
+  -- eligible exactly where the offer is below 65535
+  pub eligible-is : (k : ℕ) → k ≡ offer p → ltb k 65535 ≡ eligible p
+  eligible-is k e =
+      by-test (eligible p) (λ h. lt-ltb k 65535 (omega (arith, offer-eligible h, cost-to p h)) ∙ sym h) (λ h. le-ltb k 65535 (omega (arith, offer-not h)) ∙ sym h)
+
+  module _ (k : ℕ) (e : k ≡ offer p) where
+    pub offered : k < 65535 → (eligible p ≡ true) × (k ≡ pathCost p)
+    offered h = by-test (eligible p) (λ t. (t, omega (arith, offer-eligible t))) (λ t. absurd (omega (arith, offer-not t)))
+
+    pub not-offered : 65535 ≤ k → eligible p ≡ false
+    not-offered h = by-test (eligible p) (λ t. absurd (omega (arith, offer-eligible t, cost-to p t))) (λ t. t)
+
 pub ruleset incrementWays = (increment-none, increment-some, is-increment, increment-is-ceiling)
 
-pub ruleset costWays = (path-cost-is, not-used, low-rank, none-acked, poor-link, by-cost)
+pub ruleset costWays = (path-cost-is, offer-free, offer-low, offer-none, offer-poor, offer-cost, offer-dear, offer-bound, eligible-is)

@@ -1,1 +1,2 @@
 pub mod Metric
+pub mod JoinMetric

@@ -2,7 +2,7 @@
 use Prim.Native.Nat.{ℕ, _+_, _*_, _-_, _/_, _≤_}
 use mathlib.Core.Bool.{Bool, false, _&&_}
 use lib.Dec.{leb}
-use Rattle.octets_spec.specs.Choice.{ifEq}
+use Rattle.octets_spec.specs.Choice.{ifEq, ifOn}
 use Rattle.nbr_metric_spec.specs.declared.Place.{Place}
 
 -- a free place is all zero
@@ -31,3 +31,7 @@ eligible p =
     p .used
     && (leb 256 (p .rank)
     && (leb 1 (p .acked) && (leb (3 * p .attempts) (11 * p .acked) && leb (pathCost p) 65534)))
+
+-- what a place offers a node as its own rank: its cost if it is eligible, else 65535, which is no parent's
+unfoldable pub offer : Place → ℕ
+offer p = ifOn (eligible p) (pathCost p) 65535

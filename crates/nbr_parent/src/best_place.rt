@@ -1,48 +1,48 @@
-// The best of the places of a table: least path cost, then lower identifier. The rules are those of docs/RULES.md, Neighbours.
+// What the best place of a table offers: least path cost, then lower identifier. The rules are those of docs/RULES.md, Neighbours.
+use nbr_metric::offer;
+use nbr_metric_spec::NO_OFFER;
 use nbr_metric_spec::Place;
+use nbr_table_spec::Offer;
+use nbr_table_spec::PLACES;
 ghost use mathlib.Core.Path.{_≡_};
-ghost use Rattle.nbr_places_spec.specs.Places.{best as bestPlace, better as betterPlace, nearer as nearerPlace};
+ghost use Rattle.nbr_table_spec.specs.Places.{best};
+ghost use Rattle.nbr_table_spec.specs.Offers.{lower as lowerOf, offerOf};
 
-// The better of two eligible places.
-fn nearer(b: Place, p: Place) -> Place
-    ensures { λ r. ⌜ r ≡ nearerPlace b p ⌝ }
+// The lower of two offers.
+fn lower(kept: Offer, other: Offer) -> Offer
+    ensures { λ r. ⌜ r ≡ lowerOf kept other ⌝ }
 {
-    let c = nbr_metric::path_cost(p);
-    let d = nbr_metric::path_cost(b);
-    if c < d {
-        return p;
+    if other.cost < kept.cost {
+        return other;
     }
-    if d < c {
-        return b;
+    if kept.cost < other.cost {
+        return kept;
     }
-    if p.id < b.id {
-        return p;
+    if other.id < kept.id {
+        return other;
     }
-    b
+    kept
 }
 
-// The better of two places.
-fn better(b: Place, p: Place) -> Place
-    ensures { λ r. ⌜ r ≡ betterPlace b p ⌝ }
+// What the best place offers, and its identifier; NO_OFFER with 0 if no place is eligible.
+pub fn best_offer(places: [Place; 32]) -> Offer
+    ensures { λ r. ⌜ r ≡ offerOf (best places) ⌝ }
 {
-    if nbr_metric::eligible(p) {
-        if nbr_metric::eligible(b) {
-            return nearer(b, p);
-        }
-        return p;
-    }
-    b
-}
-
-// The best place, the blank one if none is eligible.
-pub fn best(ps: [Place; 32]) -> Place
-    ensures { λ r. ⌜ r ≡ bestPlace ps ⌝ }
-{
-    let mut b = nbr_metric_spec::blank();
+    let mut kept = Offer {
+        cost: NO_OFFER,
+        id: 0,
+    };
     let mut i = 0;
-    while i < 32 {
-        b = better(b, ps[i]);
+    while i < PLACES {
+        let place = places[i];
+        kept = lower(
+            kept,
+            Offer {
+                cost: offer(place),
+                id: place.id,
+            },
+        );
         i += 1;
     }
-    b
+    kept
 }

@@ -1,38 +1,45 @@
-// The place of the held parent.
+// The held parent: its place, and whether two are the same.
 use nbr_metric_spec::Place;
-use nbr_places_spec::search::find;
+use nbr_table::search::find;
+use nbr_table_spec::PLACES;
 use nbr_table_spec::Parent;
-use nbr_table_spec::Table;
 ghost use mathlib.Core.Path.{_≡_};
 ghost use lib.ListN.{getD};
 ghost use Rattle.nbr_metric_spec.specs.Metric.{blank};
-ghost use Rattle.nbr_table_spec.specs.Calls.{held as heldOf, heldPlace};
+ghost use Rattle.nbr_table_spec.specs.Calls.{heldPlace, sameParent};
 
 // The place at a number, the blank one past 31.
-fn place_at(ps: [Place; 32], i: usize) -> Place
-    ensures { λ r. ⌜ r ≡ getD ps i blank ⌝ }
+fn place_at(places: [Place; 32], i: usize) -> Place
+    ensures { λ r. ⌜ r ≡ getD places i blank ⌝ }
 {
-    if i < 32 {
-        return ps[i];
+    if i < PLACES {
+        return places[i];
     }
     nbr_metric_spec::blank()
 }
 
-// The place of a parent, the blank one for none.
-fn place_of(q: Parent, ps: [Place; 32]) -> Place
-    ensures { λ r. ⌜ r ≡ heldPlace q ps ⌝ }
+// The place of a held parent, the blank one for none.
+pub fn place_of(parent: Parent, places: [Place; 32]) -> Place
+    ensures { λ r. ⌜ r ≡ heldPlace parent places ⌝ }
 {
-    match q {
-        Parent::Held(n) => place_at(ps, find(ps, 0, n)),
+    match parent {
+        Parent::Held(id) => place_at(places, find(places, 0, id)),
         Parent::None => nbr_metric_spec::blank(),
     }
 }
 
-// The held parent's place, the blank one for none.
-pub fn held(t: Table) -> Place
-    ensures { λ r. ⌜ r ≡ heldOf t ⌝ }
+// Whether two held parents are the same.
+pub fn same(before: Parent, after: Parent) -> bool
+    ensures { λ r. ⌜ r ≡ sameParent before after ⌝ }
 {
-    let ps = t.places;
-    let q = t.parent;
-    place_of(q, ps)
+    match before {
+        Parent::None => match after {
+            Parent::None => true,
+            Parent::Held(_) => false,
+        },
+        Parent::Held(old) => match after {
+            Parent::None => false,
+            Parent::Held(new) => old == new,
+        },
+    }
 }

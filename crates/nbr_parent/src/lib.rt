@@ -1,54 +1,54 @@
 // The choice of the parent between the held one and the best one. The rules are those of docs/RULES.md, Neighbours.
+use crate::best_place::best_offer;
+use crate::held_parent::place_of;
+use nbr_metric::offer;
+use nbr_metric_spec::INFINITE_RANK;
+use nbr_metric_spec::NO_OFFER;
 use nbr_metric_spec::Place;
 use nbr_table_spec::Choice;
+use nbr_table_spec::HYSTERESIS;
+use nbr_table_spec::Offer;
 use nbr_table_spec::Parent;
 ghost use mathlib.Core.Path.{_≡_};
-ghost use mathlib.Core.Bool.{true};
-ghost use Rattle.nbr_metric_spec.specs.Metric.{eligible, pathCost};
-ghost use Rattle.nbr_table_spec.specs.Calls.{choiceOf, chosen};
+ghost use Prim.Native.Nat.{_<_};
+ghost use Rattle.nbr_table_spec.specs.declared.Parent.the-variants.{Held};
+ghost use Rattle.nbr_table_spec.specs.Places.{best};
+ghost use Rattle.nbr_table_spec.specs.Calls.{choice, chosen, heldPlace};
 
 pub mod best_place;
 pub mod held_parent;
 
-// The cost of an eligible place, which fits a rank.
-fn own_rank(p: Place) -> u16
-    requires { ⌜ eligible p ≡ true ⌝ }
-    ensures { λ r. ⌜ r ≡ pathCost p ⌝ }
-{
-    nbr_metric::path_cost(p) as u16
-}
-
-// A place's neighbour becomes the parent.
-fn take(p: Place) -> Choice
-    requires { ⌜ eligible p ≡ true ⌝ }
-    ensures { λ r. ⌜ r ≡ choiceOf p ⌝ }
+// The neighbour of an offer becomes the parent.
+fn take(taken: Offer) -> Choice
+    requires { ⌜ taken .cost < 65535 ⌝ }
+    ensures { λ r. ⌜ r ≡ choice (Held (taken .id)) (taken .cost) ⌝ }
 {
     Choice {
-        parent: Parent::Held(p.id),
-        rank: own_rank(p),
+        parent: Parent::Held(taken.id),
+        rank: taken.cost as u16,
     }
 }
 
-// The choice between the held parent q, whose place is h, and the best place b.
-pub fn choose(q: Parent, h: Place, b: Place) -> Choice
-    ensures { λ r. ⌜ r ≡ chosen q h b ⌝ }
+// The parent that is held from now on, and the own rank.
+pub fn settle(places: [Place; 32], parent: Parent) -> Choice
+    ensures { λ r. ⌜ r ≡ chosen parent (heldPlace parent places) (best places) ⌝ }
 {
-    if nbr_metric::eligible(b) {
-        if nbr_metric::eligible(h) {
-            if 640
-                < nbr_metric::increment::minus(nbr_metric::path_cost(h), nbr_metric::path_cost(b))
-            {
-                return take(b);
+    let lowest = best_offer(places);
+    let held = offer(place_of(parent, places));
+    if lowest.cost < NO_OFFER {
+        if held < NO_OFFER {
+            if lowest.cost + HYSTERESIS < held {
+                return take(lowest);
             }
             return Choice {
-                parent: q,
-                rank: own_rank(h),
+                parent,
+                rank: held as u16,
             };
         }
-        return take(b);
+        return take(lowest);
     }
     Choice {
         parent: Parent::None,
-        rank: 65535,
+        rank: INFINITE_RANK,
     }
 }

@@ -1,14 +1,16 @@
-// A log of calls as four lent lists, one row for each call (specs/Log.antt): which logs are refused.
+// A log of calls as four lent lists, one row for each call: which logs are refused (specs/Log.antt of nbr_replay_spec).
+use nbr_replay_spec::EVALUATE;
+use nbr_replay_spec::MOST_ROWS;
 ghost use mathlib.Core.Path.{_≡_};
-ghost use Rattle.nbr_replay.specs.Log.{equallyLong, log, someOver, unfitLog};
+ghost use Rattle.nbr_replay_spec.specs.Log.{equallyLong, log, someOver, unfitLog};
 
-// Whether some byte is over m.
-fn any_over(s: &[u8], m: u8) -> bool
-    ensures { λ r. ⌜ r ≡ someOver m (now (s .entry)) ⌝ }
+// Whether some byte is over a limit.
+fn any_over(s: &[u8], limit: u8) -> bool
+    ensures { λ r. ⌜ r ≡ someOver limit (now (s .entry)) ⌝ }
 {
     let mut i = 0;
     while i < s.len() {
-        if m < s[i] {
+        if limit < s[i] {
             return true;
         }
         i += 1;
@@ -34,10 +36,10 @@ pub fn is_unfit(kinds: &[u8], ids: &[u64], values: &[u16], flags: &[u8]) -> bool
     ensures { λ r. ⌜ r ≡ unfitLog (log (now (kinds .entry)) (now (ids .entry)) (now (values .entry)) (now (flags .entry))) ⌝ }
 {
     if are_equally_long(kinds, ids, values, flags) {
-        if 65535 < kinds.len() {
+        if MOST_ROWS < kinds.len() {
             return true;
         }
-        if any_over(kinds, 3) {
+        if any_over(kinds, EVALUATE) {
             return true;
         }
         return any_over(flags, 1);

@@ -13,8 +13,8 @@ use Rattle.octets_spec.specs.Choice.{ifLt, ifOn}
 use Rattle.nbr_metric_spec.specs.declared.Place.{Place}
 use Rattle.nbr_metric_spec.specs.Metric.{blank, eligible, pathCost}
 use Rattle.nbr_metric_spec.proofs.MetricLaws.{blank-not-eligible}
-use Rattle.nbr_places_spec.specs.Places.{bestOf, better, nearer}
-use Rattle.nbr_places_spec.proofs.PlaceLaws.{clash, split}
+use Rattle.nbr_table_spec.specs.Places.{bestOf, better, nearer}
+use Rattle.nbr_table_spec.proofs.PlaceLaws.{clash, split}
 use Rattle.nbr_soundness_spec.specs.Soundness.{NotAfter, BestComesFirst, BestIsAPlace}
 
 -- ---- the order

@@ -11,8 +11,8 @@ use Rattle.octets_spec.specs.Choice.{ifLt, ifOn}
 use Rattle.nbr_metric_spec.specs.declared.Place.{Place}
 use Rattle.nbr_metric_spec.specs.Metric.{blank, eligible, pathCost}
 use Rattle.nbr_metric_spec.proofs.MetricLaws.{blank-not-eligible, cost-above-rank, cost-from, cost-to, eligible-used}
-use Rattle.nbr_places_spec.specs.Places.{best, firstOf, named, unfit}
-use Rattle.nbr_places_spec.proofs.PlaceLaws.{clash, fit-limits, none-at, split}
+use Rattle.nbr_table_spec.specs.Places.{best, firstOf, named, unfit}
+use Rattle.nbr_table_spec.proofs.PlaceLaws.{clash, fit-limits, none-at, split}
 use Rattle.nbr_table_spec.specs.declared.Parent.{Parent}
 use Rattle.nbr_table_spec.specs.declared.Parent.the-variants.{None, Held}
 use Rattle.nbr_table_spec.specs.declared.Table.{Table}

@@ -11,8 +11,8 @@ use borrow.Author.Tests.{eq-eqb, eqb-true, not-true}
 use Rattle.nbr_metric_spec.specs.declared.Place.{Place}
 use Rattle.nbr_metric_spec.specs.Metric.{blank}
 use Rattle.nbr_metric_spec.proofs.MetricLaws.{both}
-use Rattle.nbr_places_spec.specs.Places.{changeFirst, firstOf, free, known, named, some, twice, unfit}
-use Rattle.nbr_places_spec.proofs.PlaceLaws.{clash, neither, split}
+use Rattle.nbr_table_spec.specs.Places.{changeFirst, firstOf, free, known, named, some, twice, unfit}
+use Rattle.nbr_table_spec.proofs.PlaceLaws.{clash, neither, split}
 
 -- ---- one place
 pub named-says : (n : ℕ) (p : Place) → named n p ≡ true → (p .used ≡ true) × (p .id ≡ n)

@@ -2,7 +2,7 @@
 use mathlib.Core.Path.{refl}
 use Rattle.octets_spec.specs.Choice.{ifEq, ifLt, ifOn}
 use Rattle.nbr_metric_spec.specs.Metric.{eligible, increment, pathCost}
-use Rattle.nbr_places_spec.specs.Places.{bestOf, better, changeFirst, firstOf, free, named, nearer, nonzero, some, twice, unfit}
+use Rattle.nbr_table_spec.specs.Places.{bestOf, better, changeFirst, firstOf, free, named, nearer, nonzero, some, twice, unfit}
 use Rattle.nbr_table_spec.specs.Changes.{attempted}
 use Rattle.nbr_table_spec.specs.Calls.{advertised, broken, chosen, evaluated, forgotten, heldPlace, parentMissing, reported, without}
 use Rattle.nbr_soundness_spec.specs.Witness.{Witnessed}

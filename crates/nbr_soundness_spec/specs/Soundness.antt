@@ -7,7 +7,7 @@ use mathlib.Core.Logic.{_⊎_}
 use lib.ListN.{length, getD}
 use Rattle.nbr_metric_spec.specs.declared.Place.{Place}
 use Rattle.nbr_metric_spec.specs.Metric.{blank, eligible, pathCost}
-use Rattle.nbr_places_spec.specs.Places.{best, known}
+use Rattle.nbr_table_spec.specs.Places.{best, known}
 use Rattle.nbr_table_spec.specs.declared.Parent.the-variants.{None, Held}
 use Rattle.nbr_table_spec.specs.declared.Table.{Table}
 use Rattle.nbr_table_spec.specs.Calls.{advertised, broken, evaluated, forgotten, held, reported}

@@ -8,7 +8,7 @@ use lib.ListN.{getD, replicate}
 use Rattle.refusal.specs.Refusal.{done, outOfLimits, tableFull, unknownNeighbour}
 use Rattle.nbr_metric_spec.specs.declared.Place.{Place}
 use Rattle.nbr_metric_spec.specs.Metric.{blank, eligible, pathCost}
-use Rattle.nbr_places_spec.specs.Places.{best, free, known, some}
+use Rattle.nbr_table_spec.specs.Places.{best, free, known, some}
 use Rattle.nbr_table_spec.specs.declared.Parent.the-variants.{None, Held}
 use Rattle.nbr_table_spec.specs.declared.Table.{Table}
 use Rattle.nbr_table_spec.specs.Calls.{advertised, answer, broken, emptyTable, evaluated, forgotten, held, reported}

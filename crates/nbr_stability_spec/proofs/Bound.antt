@@ -11,8 +11,8 @@ use borrow.Author.Tests.{eq-eqb, not-true}
 use Rattle.octets_spec.specs.Choice.{ifOn, ifLt}
 use Rattle.nbr_metric_spec.specs.Metric.{eligible, pathCost}
 use Rattle.nbr_metric_spec.proofs.MetricLaws.{both, cost-to}
-use Rattle.nbr_places_spec.proofs.PlaceLaws.{clash, split}
-use Rattle.nbr_places_spec.specs.Places.{best}
+use Rattle.nbr_table_spec.proofs.PlaceLaws.{clash, split}
+use Rattle.nbr_table_spec.specs.Places.{best}
 use Rattle.nbr_table_spec.specs.declared.Parent.{Parent}
 use Rattle.nbr_table_spec.specs.declared.Parent.the-variants.{None, Held}
 use Rattle.nbr_table_spec.specs.declared.Table.{Table}
@@ -23,7 +23,7 @@ use Rattle.nbr_stability_spec.specs.Stability.{AtMost101Changes, Call, N
 use Rattle.nbr_stability_spec.specs.Stability.Call.{Advertise, Report, Forget, Evaluate}
 
 -- ---- one evaluation
-same-self : (q : Parent) → sameParent q q ≡ true
+pub same-self : (q : Parent) → sameParent q q ≡ true
 unfolding sameParent
 same-self None = refl
 same-self (Held n) = eq-eqb n n refl
@@ -44,7 +44,7 @@ falls t e =
 
 -- ---- a list
 -- a call keeps a table that is not refused so
-kept : (t : Table) (c : Call) → broken t ≡ false → broken (after t c) ≡ false
+pub kept : (t : Table) (c : Call) → broken t ≡ false → broken (after t c) ≡ false
 unfolding after
 kept t (Advertise n rank) h = calls-keep-tables t h .0 n rank
 kept t (Report n k ok) h = calls-keep-tables t h .1 n k ok

@@ -7,7 +7,7 @@ use lib.ListN.{replicate}
 use lib.Dec.{lit<}
 use Rattle.octets_spec.specs.Choice.{ifEq, ifLt, ifOn}
 use Rattle.nbr_metric_spec.specs.Metric.{blank, eligible, increment, pathCost}
-use Rattle.nbr_places_spec.specs.Places.{bestOf, better, changeFirst, firstOf, free, named, nearer, nonzero, some, twice, unfit}
+use Rattle.nbr_table_spec.specs.Places.{bestOf, better, changeFirst, firstOf, free, named, nearer, nonzero, some, twice, unfit}
 use Rattle.nbr_table_spec.specs.declared.Parent.the-variants.{Held}
 use Rattle.nbr_table_spec.specs.declared.Table.{Table}
 use Rattle.nbr_table_spec.specs.Calls.{advertised, parentMissing, broken, chosen, evaluated, heldPlace, sameParent}

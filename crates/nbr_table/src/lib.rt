@@ -1,23 +1,24 @@
 // Whether a table breaks a rule, which every call asks first. The rules are those of docs/RULES.md, Neighbours.
 use crate::place_limits::any_twice;
 use crate::place_limits::any_unfit;
+use crate::search::find;
 use nbr_metric_spec::Place;
-use nbr_places_spec::search::find;
+use nbr_table_spec::PLACES;
 use nbr_table_spec::Parent;
-use nbr_table_spec::Table;
 ghost use mathlib.Core.Path.{_≡_};
 ghost use Rattle.nbr_table_spec.specs.Calls.{broken, parentMissing};
 
 pub mod place_limits;
+pub mod search;
 pub mod table_store;
 
 // Whether a held parent is not among the places in use.
-fn is_parent_missing(q: Parent, ps: [Place; 32]) -> bool
-    ensures { λ r. ⌜ r ≡ parentMissing q ps ⌝ }
+fn is_parent_missing(parent: Parent, places: [Place; 32]) -> bool
+    ensures { λ r. ⌜ r ≡ parentMissing parent places ⌝ }
 {
-    match q {
-        Parent::Held(n) => {
-            if find(ps, 0, n) < 32 {
+    match parent {
+        Parent::Held(id) => {
+            if find(places, 0, id) < PLACES {
                 return false;
             }
             true
@@ -26,17 +27,15 @@ fn is_parent_missing(q: Parent, ps: [Place; 32]) -> bool
     }
 }
 
-// Whether a table breaks a rule.
-pub fn is_broken(t: Table) -> bool
-    ensures { λ r. ⌜ r ≡ broken t ⌝ }
+// Whether the table of these places and this held parent breaks a rule.
+pub fn is_broken(places: [Place; 32], parent: Parent) -> bool
+    ensures { λ r. ⌜ r ≡ broken (record { places = places; parent = parent }) ⌝ }
 {
-    let ps = t.places;
-    if any_unfit(ps) {
+    if any_unfit(places) {
         return true;
     }
-    if any_twice(ps) {
+    if any_twice(places) {
         return true;
     }
-    let q = t.parent;
-    is_parent_missing(q, ps)
+    is_parent_missing(parent, places)
 }

@@ -1,51 +1,53 @@
 // Which places of a table break a rule: by themselves, or by an identifier that stands twice.
 // The rules are those of docs/RULES.md, Neighbours.
+use crate::search::find;
 use nbr_metric_spec::Place;
-use nbr_places_spec::search::find;
+use nbr_table_spec::MOST_COUNTED;
+use nbr_table_spec::PLACES;
 ghost use mathlib.Core.Path.{_≡_};
-ghost use mathlib.Core.Bool.{_&&_};
-ghost use lib.ListN.{drop};
-ghost use Rattle.nbr_places_spec.specs.Places.{known, nonzero, some, twice, unfit};
+ghost use mathlib.Core.Bool.{false};
+ghost use Rattle.nbr_table_spec.specs.Places.{nonzero, some, twice, unfit};
+ghost use Rattle.nbr_table_spec.specs.Scan.{Ids, Nowhere};
 
 // Whether a place is not all zero.
-fn is_nonzero(p: Place) -> bool
-    ensures { λ r. ⌜ r ≡ nonzero p ⌝ }
+fn is_nonzero(place: Place) -> bool
+    ensures { λ r. ⌜ r ≡ nonzero place ⌝ }
 {
-    if 0 < p.id {
+    if 0 < place.id {
         return true;
     }
-    if 0 < p.rank {
+    if 0 < place.rank {
         return true;
     }
-    if 0 < p.attempts {
+    if 0 < place.attempts {
         return true;
     }
-    0 < p.acked
+    0 < place.acked
 }
 
 // Whether a place breaks a rule by itself.
-fn is_unfit(p: Place) -> bool
-    ensures { λ r. ⌜ r ≡ unfit p ⌝ }
+pub fn is_unfit(place: Place) -> bool
+    ensures { λ r. ⌜ r ≡ unfit place ⌝ }
 {
-    if 255 < p.attempts {
+    if MOST_COUNTED < place.attempts {
         return true;
     }
-    if p.attempts < p.acked {
+    if place.attempts < place.acked {
         return true;
     }
-    if p.used {
+    if place.used {
         return false;
     }
-    is_nonzero(p)
+    is_nonzero(place)
 }
 
 // Whether some place does.
-pub fn any_unfit(ps: [Place; 32]) -> bool
-    ensures { λ r. ⌜ r ≡ some unfit ps ⌝ }
+pub fn any_unfit(places: [Place; 32]) -> bool
+    ensures { λ r. ⌜ r ≡ some unfit places ⌝ }
 {
     let mut i = 0;
-    while i < 32 {
-        if is_unfit(ps[i]) {
+    while i < PLACES {
+        if is_unfit(places[i]) {
             return true;
         }
         i += 1;
@@ -53,26 +55,50 @@ pub fn any_unfit(ps: [Place; 32]) -> bool
     false
 }
 
-// Whether a place is in use by a neighbour that stands among the places from a number on.
-fn is_again(p: Place, ps: [Place; 32], from: usize) -> bool
-    ensures { λ r. ⌜ r ≡ (p .used && known (p .id) (drop from ps)) ⌝ }
+// The identifiers of all places.
+fn ids_of(places: [Place; 32]) -> [u64; 32]
+    ensures { λ r. ⌜ Ids r places ⌝ }
 {
-    if p.used {
-        return find(ps, from, p.id) < 32;
+    let mut ids = [0; 32];
+    let mut i = 0;
+    while i < PLACES {
+        ids[i] = places[i].id;
+        i += 1;
     }
-    false
+    ids
+}
+
+// Whether an identifier may stand at some place from a number on. No early exit, so that several are compared at once.
+fn may_stand(ids: &[u64; 32], from: usize, id: u64) -> bool
+    ensures { λ r. ⌜ (r ≡ false → Nowhere (now (ids .entry)) from id) ⌝ }
+{
+    let mut found = false;
+    let mut j = PLACES;
+    while from < j {
+        j -= 1;
+        found = (ids[j] == id) | found;
+    }
+    found
 }
 
 // Whether an identifier stands twice among the places in use.
-pub fn any_twice(ps: [Place; 32]) -> bool
-    ensures { λ r. ⌜ r ≡ twice ps ⌝ }
+pub fn any_twice(places: [Place; 32]) -> bool
+    ensures { λ r. ⌜ r ≡ twice places ⌝ }
 {
+    let ids = ids_of(places);
     let mut i = 0;
-    while i < 32 {
-        if is_again(ps[i], ps, i + 1) {
-            return true;
-        }
+    while i < PLACES {
+        let place = places[i];
         i += 1;
+        if place.used {
+            if may_stand(&ids, i, place.id) {
+                if find(places, i, place.id) < PLACES {
+                    return true;
+                }
+                continue;
+            }
+            continue;
+        }
     }
     false
 }

@@ -1,5 +1,6 @@
 // A table with one place or the held parent replaced.
 use nbr_metric_spec::Place;
+use nbr_table_spec::PLACES;
 use nbr_table_spec::Parent;
 use nbr_table_spec::Table;
 ghost use mathlib.Core.Path.{_≡_};
@@ -7,24 +8,21 @@ ghost use lib.ListN.{set};
 ghost use Rattle.nbr_table_spec.specs.Calls.{withParent, withPlaces};
 
 // The table with another place at a number; past 31 the table as it is.
-pub fn with_place(t: Table, i: usize, p: Place) -> Table
-    ensures { λ r. ⌜ r ≡ withPlaces t (set (t .places) i p) ⌝ }
+pub fn with_place(table: Table, at: usize, place: Place) -> Table
+    ensures { λ r. ⌜ r ≡ withPlaces table (set (table .places) at place) ⌝ }
 {
-    if i < 32 {
-        let mut u = t;
-        u.places[i] = p;
-        return u;
+    if at < PLACES {
+        let mut changed = table;
+        changed.places[at] = place;
+        return changed;
     }
-    t
+    table
 }
 
 // The table with another held parent.
-pub fn with_parent(t: Table, q: Parent) -> Table
-    ensures { λ r. ⌜ r ≡ withParent t q ⌝ }
+pub fn with_parent(table: Table, parent: Parent) -> Table
+    ensures { λ r. ⌜ r ≡ withParent table parent ⌝ }
 {
-    let ps = t.places;
-    Table {
-        places: ps,
-        parent: q,
-    }
+    let places = table.places;
+    Table { places, parent }
 }

@@ -13,9 +13,9 @@ use Rattle.octets_spec.proofs.ChoiceLaws.{choices}
 use Rattle.nbr_metric_spec.specs.declared.Place.{Place}
 use Rattle.nbr_metric_spec.specs.Metric.{blank, eligible, pathCost}
 use Rattle.nbr_metric_spec.proofs.MetricLaws.{cost-to}
-use Rattle.nbr_places_spec.specs.Places.{best, changeFirst, free, known, named, some, twice, unfit, nonzero}
-use Rattle.nbr_places_spec.specs.Search.{firstFrom}
-use Rattle.nbr_places_spec.proofs.PlaceLaws.{answered, length-mapped, first-at, fit-limits, from-0, neither, none-at, set-there, some-missing, some-there}
+use Rattle.nbr_table_spec.specs.Places.{best, changeFirst, free, known, named, some, twice, unfit, nonzero}
+use Rattle.nbr_table_spec.specs.Search.{firstFrom}
+use Rattle.nbr_table_spec.proofs.PlaceLaws.{length-mapped, first-at, fit-limits, from-0, neither, none-at, set-there, some-missing, some-there}
 use Rattle.nbr_table_spec.specs.declared.Parent.{Parent}
 use Rattle.nbr_table_spec.specs.declared.Parent.the-variants.{None, Held}
 use Rattle.nbr_table_spec.specs.declared.Table.{Table}
@@ -37,10 +37,6 @@ module _ (p : Place) (k : ℕ) (ok : Bool) (more : ℕ) (q : Place) (e : more �
 
 pub newcomer-is : (n r : ℕ) (b : Place) → b ≡ blank → _≡_ {A = Place} (record { id = n; rank = r; attempts = b .attempts; acked = b .acked; used = true }) (newcomer n r)
 newcomer-is n r b e = ap (λ (z : Place). record { id = n; rank = r; attempts = z .attempts; acked = z .acked; used = true }) e
-
--- an eligible place's cost fits a rank
-pub rank-fits : (p : Place) (k : ℕ) → eligible p ≡ true → k ≡ pathCost p → Fits w16 k
-rank-fits p k h e = record { fits = omega (arith, cost-to p h) }
 
 -- ---- a table that breaks a rule
 pub empty-is : (b : Place) → b ≡ blank → _≡_ {A = Table} (record { places = replicate 32 b; parent = None }) emptyTable
@@ -74,17 +70,13 @@ module _ (t : Table) (x : Bool) where
     unfolding broken
     broken-parent z v g = simp (← e, u, ← f, v, g)
 
--- no place of a table that breaks no rule is over a limit
-module _ (t : Table) (i : ℕ) where
-  limits : broken t ≡ false → (getD (t .places) i blank .attempts ≤ 255) × (getD (t .places) i blank .acked ≤ getD (t .places) i blank .attempts)
-  unfolding broken unfit free nonzero
-  limits e = fit-limits (getD (t .places) i blank) (none-at unfit (t .places) i refl (neither (some unfit (t .places)) (twice (t .places) || parentMissing (t .parent) (t .places)) e .0))
+-- a place that is not unfit is within its limits
+module _ (p : Place) (x : Bool) (e : x ≡ unfit p) (u : x ≡ false) where
+  pub fit-attempts : p .attempts ≤ 255
+  fit-attempts = fit-limits p (sym e ∙ u) .0
 
-  pub limit-attempts : (x : Bool) → x ≡ broken t → x ≡ false → getD (t .places) i blank .attempts ≤ 255
-  limit-attempts x e u = limits (sym e ∙ u) .0
-
-  pub limit-acked : (x : Bool) → x ≡ broken t → x ≡ false → getD (t .places) i blank .acked ≤ 255
-  limit-acked x e u = omega (arith, limits (sym e ∙ u))
+  pub fit-acked : p .acked ≤ 255
+  fit-acked = omega (arith, fit-limits p (sym e ∙ u))
 
 -- ---- the calls
 module _ (t : Table) (n : ℕ) (x : Bool) (e : x ≡ broken t) where
@@ -227,20 +219,17 @@ module _ (q : Parent) (h b : Place) (x : Bool) (e : x ≡ eligible b) where
           let n : choice q j ≡ choice q (pathCost h) = ap (choice q) z in
           search choices
 
-pub choice-is : (p : Place) (j : ℕ) → j ≡ pathCost p → choice (Held (p .id)) j ≡ choiceOf p
-choice-is p j f = ap (choice (Held (p .id))) f
-
 module _ (t : Table) (x : Bool) (e : x ≡ broken t) where
-  pub evaluated-broken : (a : Evaluation) → x ≡ true → a ≡ evaluation 8 t 65535 → a ≡ evaluated t
+  pub evaluated-broken : x ≡ true → evaluation 8 t 65535 ≡ evaluated t
   unfolding evaluated
-  evaluated-broken a u f = let b : broken t ≡ true = sym e ∙ u in f ∙ search choices
+  evaluated-broken u = let b : broken t ≡ true = sym e ∙ u in search choices
 
-  pub evaluated-done : (h b : Place) (c : Choice) (v : Table) → x ≡ false → h ≡ held t → b ≡ best (t .places) → c ≡ chosen (t .parent) h b → v ≡ withParent t (c .parent) → evaluation 0 v (c .rank) ≡ evaluated t
+  pub evaluated-done : (c : Choice) (v : Table) → x ≡ false → c ≡ chosen (t .parent) (held t) (best (t .places)) → v ≡ withParent t (c .parent) → evaluation 0 v (c .rank) ≡ evaluated t
   unfolding evaluated
-  evaluated-done h b c v u f g k w =
+  evaluated-done c v u k w =
       let a : broken t ≡ false = sym e ∙ u in
       let z : evaluation 0 v (c .rank) ≡ settled t (chosen (t .parent) (held t) (best (t .places))) =
-      ap (λ (y : Table). evaluation 0 y (c .rank)) w ∙ ap (settled t) (k ∙ ap₂ (chosen (t .parent)) f g) in
+      ap (λ (y : Table). evaluation 0 y (c .rank)) w ∙ ap (settled t) k in
       search choices
 
 -- ---- two held parents
@@ -272,15 +261,7 @@ pub ruleset checkWays = (length-mapped, missing-none, missing-known, missing-unk
 
 pub ruleset storeWays = (length-mapped, place-out)
 
-pub ruleset advertiseWays = (length-mapped, newcomer-is, advertised-broken, advertised-known, advertised-new, advertised-full)
-
-pub ruleset reportWays = (length-mapped, attempted-halved, attempted-plain, limit-attempts, limit-acked, reported-broken, reported-none, reported-many, reported-known, reported-unknown)
-
-pub ruleset forgetWays = (length-mapped, forgotten-broken, forgotten-known, forgotten-unknown, without-none, without-same, without-other)
-
 pub ruleset heldWays = (length-mapped, held-none, held-at, at-out)
-
-pub ruleset choiceWays = (answered, rank-fits, chosen-none, chosen-best, chosen-change, chosen-keep, choice-is)
 
 pub ruleset evaluateWays = (evaluated-broken, evaluated-done)
 

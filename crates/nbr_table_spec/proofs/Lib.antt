@@ -1,1 +1,5 @@
+pub mod PlaceLaws
+pub mod ScanLaws
 pub mod CallLaws
+pub mod StoreLaws
+pub mod OfferLaws

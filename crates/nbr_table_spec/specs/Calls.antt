@@ -15,7 +15,7 @@ use Rattle.nbr_table_spec.specs.declared.Table.{Table}
 use Rattle.nbr_table_spec.specs.declared.Answer.{Answer}
 use Rattle.nbr_table_spec.specs.declared.Choice.{Choice}
 use Rattle.nbr_table_spec.specs.declared.Evaluation.{Evaluation}
-use Rattle.nbr_places_spec.specs.Places.{best, changeFirst, firstOf, free, known, named, some, twice, unfit}
+use Rattle.nbr_table_spec.specs.Places.{best, changeFirst, firstOf, free, known, named, some, twice, unfit}
 use Rattle.nbr_table_spec.specs.Changes.{attempted, newcomer, withRank}
 
 -- ---- the table

@@ -1,2 +1,7 @@
+pub mod Places
+pub mod Search
 pub mod Changes
 pub mod Calls
+pub mod Stores
+pub mod Offers
+pub mod Scan

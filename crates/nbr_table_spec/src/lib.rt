@@ -4,6 +4,18 @@ use nbr_metric_spec::Place;
 ghost use mathlib.Core.Path.{_≡_};
 ghost use Rattle.nbr_table_spec.specs.Calls.{emptyTable};
 
+// How many places a table has. The number of a place that is not there.
+pub const PLACES: usize = 32;
+
+// The most attempts that a place counts.
+pub const MOST_COUNTED: u16 = 255;
+
+// The most attempts that one report may say.
+pub const MOST_REPORTED: u32 = 4;
+
+// A parent is changed for one whose path cost is lower by more than this.
+pub const HYSTERESIS: u32 = 640;
+
 // The held parent's identifier, or none.
 pub enum Parent {
     None,
@@ -20,6 +32,20 @@ pub struct Table {
 pub struct Answer {
     pub number: u8,
     pub table: Table,
+}
+
+// What a call finds out before it changes the places: its number, the place that it stores, and the number of that place, 32 for
+// none (specs/Stores.antt).
+pub struct Change {
+    pub number: u8,
+    pub at: usize,
+    pub place: Place,
+}
+
+// What a neighbour offers a node as its own rank, and its identifier (specs/Offers.antt).
+pub struct Offer {
+    pub cost: u32,
+    pub id: u64,
 }
 
 // What an evaluation settles: the parent that is held from now on, and the own rank, 65535 where there is no parent.

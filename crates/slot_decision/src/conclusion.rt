@@ -7,11 +7,16 @@ use slot_spec::Found;
 use slot_spec::Scan;
 use slot_spec::Search;
 
+// The most links that a schedule may have.
+const MOST_LINKS: usize = 16;
+// The last ASN: an ASN has five bytes.
+const LAST_ASN: u64 = 0xFF_FFFF_FFFF;
+
 fn result(search: Search) -> Found
     ensures { λ r. ⌜ r ≡ foundOf search ⌝ }
 {
     if search.found {
-        return Found::At(search.index, search.channel_offset);
+        return Found::At((search.index % 256) as u8, search.channel_offset);
     }
     Found::Nothing
 }
@@ -41,10 +46,10 @@ fn transmit(asn: u64, found: Found, other: Decision) -> Decision
 }
 
 // Whether the schedule and the ASN are within their limits.
-fn within(size: u16, count: usize, below: bool, id: u8, asn: u64) -> bool
+fn within(size: u32, count: usize, below: bool, id: u32, asn: u64) -> bool
     ensures { λ r. ⌜ r ≡ limits size count below id asn ⌝ }
 {
-    (1 <= size) & ((1 <= count) & ((count <= 16) & (below & ((id == 0) & (asn <= 1099511627775)))))
+    (1 <= size) & ((1 <= count) & ((count <= MOST_LINKS) & (below & ((id == 0) & (asn <= LAST_ASN)))))
 }
 
 fn act(asn: u64, waits: bool, sends: Found, hears: Found) -> Decision
@@ -57,7 +62,7 @@ fn act(asn: u64, waits: bool, sends: Found, hears: Found) -> Decision
     awaited
 }
 
-pub fn conclude(seen: Scan, count: usize, id: u8, asn: u64, waits: bool) -> Decision
+pub fn conclude(seen: Scan, count: usize, id: u32, asn: u64, waits: bool) -> Decision
     ensures { λ r. ⌜ r ≡ concluded seen count id asn waits ⌝ }
 {
     if within(seen.size, count, seen.below, id, asn) {

@@ -16,7 +16,7 @@ pub mod conclusion;
 pub mod scan;
 pub mod slots;
 
-fn begin(asn: u64, size: u16) -> Scan
+fn begin(asn: u64, size: u32) -> Scan
     ensures { λ r. ⌜ r ≡ begun asn size ⌝ }
 {
     Scan {
@@ -37,7 +37,7 @@ fn begin(asn: u64, size: u16) -> Scan
 }
 
 // The decision in the slot of an ASN, where `waits` says whether a frame waits to be sent.
-pub fn decide(links: &[Link], size: u16, id: u8, asn: u64, waits: bool) -> Decision
+pub fn decide(links: &[Link], size: u32, id: u32, asn: u64, waits: bool) -> Decision
     ensures { λ r. ⌜ r ≡ decision (now (links .entry)) size id asn waits ⌝ }
 {
     let mut seen = begin(asn, size);
@@ -53,8 +53,8 @@ pub fn decide(links: &[Link], size: u16, id: u8, asn: u64, waits: bool) -> Decis
 pub fn decide_listed(
     links: [Link; 16],
     count: usize,
-    size: u16,
-    id: u8,
+    size: u32,
+    id: u32,
     asn: u64,
     waits: bool,
 ) -> Decision

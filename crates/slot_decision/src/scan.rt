@@ -1,5 +1,6 @@
 // One link of a schedule: whether it is active and what for, and what is known of the list with it.
 ghost use mathlib.Core.Path.{_≡_};
+ghost use lib.Dec.{ltb};
 ghost use Rattle.octets_spec.specs.Choice.{ifOn};
 ghost use Rattle.slot_spec.specs.Slot.{isActive, optionBit};
 ghost use Rattle.slot_spec.specs.Scan.{searched, stepped};
@@ -7,10 +8,23 @@ use eb_record_spec::Link;
 use slot_spec::Scan;
 use slot_spec::Search;
 
-fn is_active(slot: u16, link: Link) -> bool
+// A timeslot, as wide as the size of a slotframe.
+fn wide(timeslot: u16) -> u32
+    ensures { λ r. ⌜ r ≡ timeslot ⌝ }
+{
+    timeslot as u32
+}
+
+fn is_active(slot: u32, link: Link) -> bool
     ensures { λ r. ⌜ r ≡ isActive slot link ⌝ }
 {
-    link.timeslot == slot
+    wide(link.timeslot) == slot
+}
+
+fn is_below(size: u32, link: Link) -> bool
+    ensures { λ r. ⌜ r ≡ ltb (link .timeslot) size ⌝ }
+{
+    wide(link.timeslot) < size
 }
 
 fn may_transmit(link: Link) -> bool
@@ -64,7 +78,7 @@ pub fn step(seen: Scan, link: Link, index: usize) -> Scan
     Scan {
         size: seen.size,
         slot: seen.slot,
-        below: (link.timeslot < seen.size) & seen.below,
+        below: is_below(seen.size, link) & seen.below,
         transmit: searching(
             active & may_transmit(link),
             index,

@@ -8,13 +8,13 @@ use slot_spec::Decision;
 use slot_spec::SlotAnswer;
 
 // The slot of the slotframe in which an ASN falls.
-pub fn slot_offset(asn: u64, size: u16) -> u16
+pub fn slot_offset(asn: u64, size: u32) -> u32
     ensures { λ r. ⌜ r ≡ slotOffset asn size ⌝ }
 {
     if size == 0 {
         return 0;
     }
-    (asn % size as u64) as u16
+    (asn % size as u64) as u32
 }
 
 // The numbers of a decision.

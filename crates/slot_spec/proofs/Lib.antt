@@ -1,3 +1,4 @@
 pub mod SlotLaws
 pub mod Scanned
 pub mod Calling
+pub mod Permutation

@@ -1,18 +1,20 @@
 -- What the code finds link by link is what the definition says of the whole list; and what one turn of a loop through the list keeps.
 -- Assumes nothing.
-use Prim.Native.Nat.{ℕ, suc, _-_, _<_, _≤_}
+use Prim.Native.Nat.{ℕ, suc, _+_, _-_, _^_, _<_, _≤_}
 use mathlib.Core.Path.{_≡_, refl, subst, _∙_}
-use mathlib.Core.Bool.{Bool, true, false}
+use mathlib.Core.Bool.{Bool, true, false, _&&_, and-eq-true-iff}
 use mathlib.Core.List.{List, [], _∷_}
-use native.Mathlib.Nat.{le-refl}
+use native.Mathlib.Nat.{le-refl, mod-eq-of-lt}
 use native.Mathlib.Omega.{arith}
+use borrow.Author.Tests.{leb-true}
+use lib.Dec.{leb, eqb}
 use lib.ListN.{length, getD, take, drop, drop-of-length-le}
 use lib.Seq.{drop-cons, getD-take, length-take-le}
 use Rattle.octets_spec.specs.Choice.{ifOn, ifLt}
 use Rattle.octets_spec.proofs.ChoiceLaws.{if-lt, if-ge}
 use Rattle.eb_record_spec.specs.declared.Link.{Link}
 use Rattle.eb_record_spec.specs.Record.{blankLink}
-use Rattle.slot_spec.specs.Slot.{timeslotsBelow, slotOffset, isActive, optionBit, firstActive, decision}
+use Rattle.slot_spec.specs.Slot.{limits, timeslotsBelow, slotOffset, isActive, optionBit, firstActive, decision}
 use Rattle.slot_spec.specs.Scan.{begun, searchOf, searched, foundOf, stepped, concluded}
 use Rattle.slot_spec.specs.declared.Found.{Found}
 use Rattle.slot_spec.specs.declared.Found.the-variants.{Nothing, At}
@@ -40,19 +42,52 @@ unfolding searched ifOn
 searched-is true index offset found = refl
 searched-is false index offset found = refl
 
-found-is : (found : Found) → foundOf (searchOf found) ≡ found
+-- an index is below a bound
+abbrev Below : ℕ → Found → Type 0
+Below bound Nothing = Unit
+Below bound (At index offset) = index < bound
+
+found-is : (bound : ℕ) (found : Found) → bound ≤ 256 → Below bound found → foundOf (searchOf found) ≡ found
 unfolding foundOf ifOn
-found-is Nothing = refl
-found-is (At index offset) = refl
+found-is bound Nothing small below = refl
+found-is bound (At index offset) small below = let low : index < 256 = omega (arith, below) in rw (mod-eq-of-lt low)
+
+chosen-below : (serves : Bool) (bound index offset : ℕ) (found : Found) → index < bound → Below bound found → Below bound (ifOn serves (At index offset) found)
+unfolding ifOn
+chosen-below true bound index offset found here behind = here
+chosen-below false bound index offset found here behind = behind
+
+first-below : (slot bit index bound : ℕ) (links : List Link) → index + length links ≤ bound → Below bound (firstActive slot bit index links)
+unfolding firstActive
+first-below slot bit index bound [] fits = tt
+first-below slot bit index bound (link ∷ links) fits =
+    chosen-below (isActive slot link && optionBit bit link) bound index (link .«channel_offset») (firstActive slot bit (suc index) links) (omega arith) (first-below slot bit (suc index) bound links (omega arith))
 
 scanned-is : (asn size index : ℕ) (links : List Link) → scanned (begun asn size) index links ≡ known (begun asn size) index links
 unfolding scanned stepped begun firstActive timeslotsBelow
 scanned-is asn size index [] = refl
 scanned-is asn size index (link ∷ links) = rw (scanned-is asn size (suc index) links) (simp searched-is)
 
+-- a schedule within the limits has at most 16 links
+few : (size count : ℕ) (below : Bool) (id asn : ℕ) → limits size count below id asn ≡ true → count ≤ 16
+unfolding limits
+few size count below id asn h = leb-true count 16 (third (leb 1 size) (leb 1 count) (leb count 16) (below && (eqb id 0 && leb asn (2 ^ 40 - 1))) h)
+  where
+    third : (a b c d : Bool) → (a && (b && (c && d))) ≡ true → c ≡ true
+    third a b c d e = and-eq-true-iff c d .0 (and-eq-true-iff b (c && d) .0 (and-eq-true-iff a (b && (c && d)) .0 e .1) .1) .0
+
+if-within : (ok : Bool) (x y : Decision) → (ok ≡ true → x ≡ y) → ifOn ok x Refused ≡ ifOn ok y Refused
+unfolding ifOn
+if-within true x y h = h refl
+if-within false x y h = refl
+
 decided : (links : List Link) (size id asn : ℕ) (waits : Bool) → concluded (scanned (begun asn size) 0 links) (length links) id asn waits ≡ decision links size id asn waits
 unfolding concluded decision begun
-decided links size id asn waits = rw (scanned-is asn size 0 links) (simp found-is)
+decided links size id asn waits =
+    let slot : ℕ = slotOffset asn size in
+    let found : (bit : ℕ) → length links ≤ 16 → foundOf (searchOf (firstActive slot bit 0 links)) ≡ firstActive slot bit 0 links = λ bit short. found-is 16 (firstActive slot bit 0 links) (omega arith) (first-below slot bit 0 16 links (omega arith)) in
+    rw (scanned-is asn size 0 links)
+    (if-within (limits size (length links) (timeslotsBelow size links) id asn) _ _ (λ ok. let short = few size (length links) (timeslotsBelow size links) id asn ok in rw (found 0 short, found 1 short)))
 
 -- ---- a loop through a list: what is known of the links from an index on
 module _ (links : List Link) (start : Scan) where

@@ -5,13 +5,13 @@ use mathlib.Core.Path.{_≡_, refl, sym, _∙_}
 use mathlib.Core.Bool.{Bool, true, false, _&&_, _||_}
 use native.Mathlib.Nat.{div-one, mod-lt, pos-of-ne-zero}
 use native.Mathlib.Omega.{arith}
-use mir.Syntax.{w16}
+use mir.Syntax.{w32}
 use mir.Val.{Fits}
 use lib.Dec.{ltb, leb, eqb}
 use Rattle.octets_spec.specs.Choice.{ifOn, ifEq}
 use Rattle.octets_spec.proofs.ChoiceLaws.{if-on, if-off, if-eq, if-ne, choices}
 use Rattle.eb_record_spec.specs.declared.Link.{Link}
-use Rattle.hopping.specs.Hopping.{channelOf}
+use Rattle.slot_spec.specs.Hopping.{channelOf}
 use Rattle.slot_spec.specs.Slot.{limits, slotOffset, isActive, optionBit, transmitOn, listenOn, action}
 use Rattle.slot_spec.specs.Scan.{begun, searchOf, searched, foundOf, stepped, concluded}
 use Rattle.slot_spec.specs.Answer.{answerOf}
@@ -32,13 +32,16 @@ module _ (asn size : ℕ) where
   unfolding slotOffset
   some-slot n = if-ne 0 (asn % size) size 0 n refl
 
-  pub slot-fits : (size ≡ 0 → ⊥) → size < 2 ^ 16 → Fits w16 (asn % size)
+  pub slot-fits : (size ≡ 0 → ⊥) → size < 2 ^ 32 → Fits w32 (asn % size)
   slot-fits n small = record { fits = omega (arith, mod-lt asn {m = size} (pos-of-ne-zero n)) }
 
 module _ (link : Link) where
-  pub active : (slot : ℕ) → eqb (link .timeslot) slot ≡ isActive slot link
+  pub active : (slot timeslot : ℕ) → timeslot ≡ link .timeslot → eqb timeslot slot ≡ isActive slot link
   unfolding isActive
-  active slot = refl
+  active slot timeslot e = rw e
+
+  pub below-size : (size timeslot : ℕ) → timeslot ≡ link .timeslot → ltb timeslot size ≡ ltb (link .timeslot) size
+  below-size size timeslot e = rw e
 
   pub transmits : eqb (link .options % 2) 1 ≡ optionBit 0 link
   unfolding optionBit
@@ -56,7 +59,7 @@ module _ (serves : Bool) (index offset : ℕ) (behind : Search) where
   searches found p o e₁ e₂ e₃ = rw (e₁, e₂, e₃)
 
 module _ (search : Search) where
-  pub results : search .found ≡ true → At (search .index) (search .«channel_offset») ≡ foundOf search
+  pub results : search .found ≡ true → At (search .index % 256) (search .«channel_offset») ≡ foundOf search
   unfolding foundOf
   results e = if-on _ _ _ e refl
 
@@ -68,13 +71,13 @@ pub begins : (asn size slot : ℕ) → slot ≡ slotOffset asn size → record {
 unfolding begun
 begins asn size slot e = rw e
 
-pub steps : (seen : Scan) (link : Link) (index : ℕ) (on sends hears below tx rx : Bool) (transmit receive : Search)
-    → on ≡ isActive (seen .slot) link → below ≡ (ltb (link .timeslot) (seen .size) && seen .below)
+pub steps : (seen : Scan) (link : Link) (index : ℕ) (on sends hears low below tx rx : Bool) (transmit receive : Search)
+    → on ≡ isActive (seen .slot) link → low ≡ ltb (link .timeslot) (seen .size) → below ≡ (low && seen .below)
     → sends ≡ optionBit 0 link → tx ≡ (on && sends) → transmit ≡ searched tx index (link .«channel_offset») (seen .transmit)
     → hears ≡ optionBit 1 link → rx ≡ (on && hears) → receive ≡ searched rx index (link .«channel_offset») (seen .receive)
     → record { size = seen .size; slot = seen .slot; below = below; transmit = transmit; receive = receive } ≡ stepped seen link index
 unfolding stepped
-steps seen link index on sends hears below tx rx transmit receive e₁ e₂ e₃ e₄ e₅ e₆ e₇ e₈ = rw (e₅, e₈, e₄, e₇, e₃, e₆, e₁, e₂)
+steps seen link index on sends hears low below tx rx transmit receive e₁ l e₂ e₃ e₄ e₅ e₆ e₇ e₈ = rw (e₅, e₈, e₄, e₇, e₃, e₆, e₁, e₂, l)
 
 -- ---- from what was found to the decision
 module _ (asn : ℕ) where
@@ -135,4 +138,4 @@ module _ (d : Decision) where
   unfolding answerOf
   answers-listen index channel e = rw e
 
-pub ruleset slots = (choices, no-slot, some-slot, slot-fits, active, transmits, receives, searches, results, results-none, begins, steps, listens, sleeps, sends, sends-not, acts-waiting, acts-idle, checks, concludes, refuses, answers-refused, answers-sleep, answers-transmit, answers-listen)
+pub ruleset slots = (choices, no-slot, some-slot, slot-fits, active, below-size, transmits, receives, searches, results, results-none, begins, steps, listens, sleeps, sends, sends-not, acts-waiting, acts-idle, checks, concludes, refuses, answers-refused, answers-sleep, answers-transmit, answers-listen)

@@ -1,3 +1,4 @@
+pub mod Hopping
 pub mod Slot
 pub mod Answer
 pub mod Scan

@@ -1,7 +1,7 @@
 -- How the code goes through the list: once, from the last link to the first, so that the link met last is the first one listed
 -- (docs/RULES.md, Slot and channel). That this gives the decision of specs/Slot.antt is proved in proofs/Scanned.antt. Assumes
 -- nothing.
-use Prim.Native.Nat.{ℕ}
+use Prim.Native.Nat.{ℕ, _%_}
 use mathlib.Core.Bool.{Bool, true, false, _&&_, _||_}
 use lib.Dec.{ltb}
 use Rattle.octets_spec.specs.Choice.{ifOn}
@@ -19,9 +19,9 @@ abbrev pub searchOf : Found → Search
 searchOf Nothing = record { found = false; index = 0; «channel_offset» = 0 }
 searchOf (At index offset) = record { found = true; index = index; «channel_offset» = offset }
 
--- what a search has found
+-- what a search has found; an index is kept in 8 bits, which are enough for the 16 links that a schedule may have
 unfoldable pub foundOf : Search → Found
-foundOf search = ifOn (search .found) (At (search .index) (search .«channel_offset»)) Nothing
+foundOf search = ifOn (search .found) (At (search .index % 256) (search .«channel_offset»)) Nothing
 
 -- a search after a link: that link if it serves, else what was found behind it
 unfoldable pub searched : Bool → ℕ → ℕ → Search → Search

@@ -6,7 +6,7 @@ use lib.Dec.{ltb, leb, eqb}
 use lib.ListN.{length}
 use Rattle.octets_spec.specs.Choice.{ifOn, ifEq}
 use Rattle.eb_record_spec.specs.declared.Link.{Link}
-use Rattle.hopping.specs.Hopping.{channelOf}
+use Rattle.slot_spec.specs.Hopping.{channelOf}
 use Rattle.slot_spec.specs.declared.Found.{Found}
 use Rattle.slot_spec.specs.declared.Found.the-variants.{Nothing, At}
 use Rattle.slot_spec.specs.declared.Decision.{Decision}

@@ -5,8 +5,8 @@
 pub enum Decision {
     Refused,
     Sleep,
-    Transmit(usize, u8),
-    Listen(usize, u8),
+    Transmit(u8, u8),
+    Listen(u8, u8),
 }
 
 // The numbers of a decision: of the refusal, of the action (0 sleep, 1 transmit, 2 listen), the channel and the link's index.
@@ -15,13 +15,13 @@ pub struct SlotAnswer {
     pub number: u8,
     pub action: u8,
     pub channel: u8,
-    pub index: usize,
+    pub index: u8,
 }
 
 // What a search through the list has found: the index and the channel offset of a link.
 pub enum Found {
     Nothing,
-    At(usize, u16),
+    At(u8, u16),
 }
 
 // The same while the search goes on, as numbers that each turn makes anew (an enum would be copied with its padding).
@@ -34,8 +34,8 @@ pub struct Search {
 // What is known of the links from an index on: the slotframe's size and the slot in it, whether every timeslot is below the size, and
 // the first active link that may transmit and the first that may receive.
 pub struct Scan {
-    pub size: u16,
-    pub slot: u16,
+    pub size: u32,
+    pub slot: u32,
     pub below: bool,
     pub transmit: Search,
     pub receive: Search,

@@ -4,10 +4,10 @@ use mathlib.Core.Bool.{Bool, true, false, _&&_}
 use mathlib.Core.List.{List, [], _∷_}
 use lib.Dec.{T, eqb, eqb→eq}
 use Rattle.octets_spec.specs.Choice.{ifOn, ifLt, ifEq}
-use Rattle.hopping.specs.Hopping.{channelOf}
+use Rattle.slot_spec.specs.Hopping.{channelOf}
 use Rattle.nbr_metric_spec.specs.Metric.{increment, pathCost, eligible}
-use Rattle.nbr_metric.specs.JoinMetric.{joinMetric}
-use Rattle.nbr_places_spec.specs.Places.{free, named, some, firstOf, nonzero, unfit, twice, nearer, better, bestOf}
+use Rattle.nbr_metric_spec.specs.JoinMetric.{joinMetric}
+use Rattle.nbr_table_spec.specs.Places.{free, named, some, firstOf, nonzero, unfit, twice, nearer, better, bestOf}
 use Rattle.nbr_table_spec.specs.Changes.{attempted}
 use Rattle.nbr_table_spec.specs.Calls.{parentMissing, broken, heldPlace, chosen, evaluated}
 use Rattle.values_spec.specs.Values.{Worked, workedValues, AllHold, Values}

@@ -6,9 +6,9 @@ use mathlib.Core.Bool.{Bool, true, false, cond}
 use mathlib.Core.List.{List, [], _∷_}
 use lib.ListN.{replicate}
 use Rattle.refusal.specs.Refusal.{done, outOfLimits}
-use Rattle.hopping.specs.Hopping.{channelOf}
+use Rattle.slot_spec.specs.Hopping.{channelOf}
 use Rattle.nbr_metric_spec.specs.Metric.{blank, increment, eligible}
-use Rattle.nbr_metric.specs.JoinMetric.{joinMetric}
+use Rattle.nbr_metric_spec.specs.JoinMetric.{joinMetric}
 use Rattle.nbr_metric_spec.specs.declared.Place.{Place}
 use Rattle.nbr_table_spec.specs.Changes.{attempted}
 use Rattle.nbr_table_spec.specs.Calls.{evaluated}

@@ -6,11 +6,15 @@ use nbr_metric_spec::Place;
 use nbr_table_spec::Parent;
 use nbr_table_spec::Table;
 use slot_spec::SlotAnswer;
+use libc::STDOUT_FILENO;
+
+// The last ASN: an ASN has five bytes.
+const LAST_ASN: u64 = 0xFF_FFFF_FFFF;
 
 // Writes a number and the byte behind it.
 fn put(number: u64, end: u8) {
-    io::print_decimal(1, number);
-    io::write_all(1, &[end]);
+    io::print_decimal(STDOUT_FILENO, number);
+    io::write_all(STDOUT_FILENO, &[end]);
 }
 
 fn channel(asn: u64, channel_offset: u16) {
@@ -20,14 +24,14 @@ fn channel(asn: u64, channel_offset: u16) {
 }
 
 fn channels() {
-    io::write_all(1, b"asn, offset: channel\n");
+    io::write_all(STDOUT_FILENO, b"asn, offset: channel\n");
     channel(11, 0);
-    channel(1099511627775, 0);
-    channel(1099511627775, 1);
+    channel(LAST_ASN, 0);
+    channel(LAST_ASN, 1);
 }
 
 // What a decision is asked for.
-fn asked(count: usize, size: u16, id: u8, asn: u64, waits: bool) {
+fn asked(count: usize, size: u32, id: u32, asn: u64, waits: bool) {
     put(count as u64, b' ');
     put(size as u64, b' ');
     put(id as u64, b' ');
@@ -38,12 +42,12 @@ fn asked(count: usize, size: u16, id: u8, asn: u64, waits: bool) {
 fn answered(answer: SlotAnswer) {
     put(answer.number as u64, b' ');
     put(answer.action as u64, b' ');
-    put(answer.place as u64, b' ');
+    put(answer.index as u64, b' ');
     put(answer.channel as u64, b'\n');
 }
 
 // The decision on the first `count` links.
-fn slot(links: [Link; 16], count: usize, size: u16, id: u8, asn: u64, waits: bool) {
+fn slot(links: [Link; 16], count: usize, size: u32, id: u32, asn: u64, waits: bool) {
     asked(count, size, id, asn, waits);
     answered(slot_decision::slots::answer(slot_decision::decide_listed(
         links,
@@ -64,7 +68,7 @@ fn link(timeslot: u16, channel_offset: u16, options: u16) -> Link {
 }
 
 // The schedule of RFC 8180: a shared cell in slot 0 of a slotframe, to transmit and receive.
-fn minimal(count: usize, size: u16, id: u8, asn: u64, waits: bool) {
+fn minimal(count: usize, size: u32, id: u32, asn: u64, waits: bool) {
     slot([link(0, 0, 15); 16], count, size, id, asn, waits);
 }
 
@@ -77,19 +81,19 @@ fn mixed_links() -> [Link; 16] {
     links
 }
 
-fn mixed(count: usize, size: u16, asn: u64, waits: bool) {
+fn mixed(count: usize, size: u32, asn: u64, waits: bool) {
     slot(mixed_links(), count, size, 0, asn, waits);
 }
 
 fn slots() {
     io::write_all(
-        1,
-        b"links, size, sequence, asn, waiting: number, action (0 sleep, 1 transmit, 2 listen), place, channel\n",
+        STDOUT_FILENO,
+        b"links, size, sequence, asn, waiting: number, action (0 sleep, 1 transmit, 2 listen), index, channel\n",
     );
     minimal(1, 11, 0, 256, true);
     minimal(1, 11, 0, 264, true);
     minimal(1, 11, 0, 264, false);
-    minimal(1, 101, 0, 1099511627775, false);
+    minimal(1, 101, 0, LAST_ASN, false);
     mixed(4, 7, 24, true);
     mixed(4, 7, 24, false);
     mixed(2, 7, 24, true);
@@ -103,7 +107,7 @@ fn limits() {
     minimal(17, 11, 0, 264, true);
     mixed(4, 5, 24, true);
     minimal(1, 11, 1, 264, true);
-    minimal(1, 11, 0, 1099511627776, true);
+    minimal(1, 11, 0, LAST_ASN + 1, true);
 }
 
 // A neighbour of some rank that acknowledged 75 of 100 frames.
@@ -130,7 +134,7 @@ fn child(rank: u16) -> u16 {
 
 // A tag at some rank: its join metric, and its child's own rank.
 fn hop(rank: u16) -> u16 {
-    let metric = nbr_metric::join_metric::join_metric(rank);
+    let metric = nbr_metric::join_metric::join_metric(rank as u32);
     let own = child(rank);
     put(rank as u64, b' ');
     put(metric.number as u64, b' ');
@@ -141,7 +145,7 @@ fn hop(rank: u16) -> u16 {
 
 // RFC 8180's example of five hops: each adds 512.
 fn hops() {
-    io::write_all(1, b"rank: join metric's number, metric, child's own rank\n");
+    io::write_all(STDOUT_FILENO, b"rank: join metric's number, metric, child's own rank\n");
     let first = hop(256);
     let second = hop(first);
     let third = hop(second);
@@ -150,8 +154,8 @@ fn hops() {
     hop(fifth);
 }
 
-fn wide(value: u32) -> u64 {
-    value as u64
+fn wide(timing: u32) -> u64 {
+    timing as u64
 }
 
 // The length of a frame, its number and some of its record.
@@ -203,7 +207,7 @@ fn cut(length: usize)
 // The whole beacon, and cut by a byte, behind 0x7E, behind the source, in the source, and to nothing.
 fn frames() {
     io::write_all(
-        1,
+        STDOUT_FILENO,
         b"beacon of 38 bytes and cuts of it, zeros, RFC 8180 A.1, A.2 as printed, A.2 with a group of 50 bytes\nlength: number, asn, metric, size, links, template, timeslot length\n",
     );
     cut(38);

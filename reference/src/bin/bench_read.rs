@@ -1,51 +1,22 @@
 //! Benchmark of reading: the library and three readers in Rust on the same frames, in one run.
 //!
-//! The Rust readers: the reference, whose answer is its own record; the reference, with the record then laid out in the
-//! arrays that the library fills; and a reader that fills these arrays as it goes.
+//! The Rust readers: the reference, whose answer is its own record; the reference, with its record then converted to C's;
+//! and a reader that fills C's record as it goes.
 
 use reference::beacons::random_beacon;
 use reference::damage::{edit_length, flip_bit};
-use reference::flat::{self, Flat, BLANK, LINK_NUMBERS, NUMBERS};
-use reference::frame::{self, Address, Beacon, LONGEST_FRAME, LONGEST_NETWORK_ID, TIMINGS};
-use reference::library;
+use reference::frame::{self, Address, Beacon, LONGEST_FRAME};
+use reference::interface::Reading;
+use reference::measure::{compare, Side, CHUNK};
 use reference::parts::house_form;
 use reference::random::Random;
 use reference::slot::MOST_LINKS;
+use reference::{convert, direct, library};
 use std::collections::HashSet;
 use std::hint::black_box;
 use std::ops::Range;
-use std::time::Instant;
 
 const FRAMES: usize = 100_000;
-const ROUNDS: usize = 25;
-
-type Read = fn(&[u8], &mut Flat) -> u8;
-
-struct Side {
-    name: &'static str,
-    read: Read,
-    fills_arrays: bool,
-}
-
-/// The library comes first; the others are what it is compared with.
-const SIDES: [Side; 4] = [
-    Side { name: "library", read: library::read, fills_arrays: true },
-    Side { name: "reference, own record", read: read_record, fills_arrays: false },
-    Side { name: "reference, laid out", read: read_and_lay_out, fills_arrays: true },
-    Side { name: "reader into arrays", read: flat::read, fills_arrays: true },
-];
-
-fn read_and_lay_out(frame: &[u8], record: &mut Flat) -> u8 {
-    flat::lay_out(&frame::read(frame), record)
-}
-
-/// The reference's answer is written to memory as it is.
-fn read_record(frame: &[u8], _: &mut Flat) -> u8 {
-    match black_box(&frame::read(frame)) {
-        Ok(_) => 0,
-        Err(check) => check.number(),
-    }
-}
 
 /// Frames, one behind the other.
 #[derive(Default)]
@@ -60,8 +31,8 @@ impl Load {
         self.bytes.extend(frame);
     }
 
-    fn frames(&self) -> impl Iterator<Item = &[u8]> {
-        self.places.iter().map(|place| &self.bytes[place.clone()])
+    fn frames(&self, cases: Range<usize>) -> impl Iterator<Item = &[u8]> {
+        self.places[cases].iter().map(|place| &self.bytes[place.clone()])
     }
 }
 
@@ -92,52 +63,34 @@ fn loads(random: &mut Random) -> (Vec<Beacon>, Load, Load) {
     (beacons, whole, broken)
 }
 
-/// What the arrays hold before a reading that is compared.
-const NO_RECORD: Flat =
-    Flat { numbers: [9; NUMBERS], timings: [9; TIMINGS], links: [9; LINK_NUMBERS], network: [9; LONGEST_NETWORK_ID] };
-
-/// All sides must give the same number, and all that fill arrays the same record; counts the numbers.
-fn compare(load: &Load) -> [usize; 9] {
+/// All readers must give the same answer; counts the numbers.
+fn check(load: &Load) -> [usize; 9] {
     let mut numbers = [0; 9];
-    let mut expected = BLANK;
-    for frame in load.frames() {
-        let number = read_and_lay_out(frame, &mut expected);
-        for side in &SIDES {
-            let mut record = NO_RECORD;
-            assert_eq!((side.read)(frame, &mut record), number, "{}: {frame:02X?}", side.name);
-            assert!(record == expected || !side.fills_arrays, "{}: {frame:02X?}: {record:?}", side.name);
-        }
-        numbers[usize::from(number)] += 1;
+    for frame in load.frames(0..FRAMES) {
+        let expected = convert::read(frame);
+        assert_eq!(library::read(frame), expected, "{frame:02X?}");
+        assert_eq!(direct::read(frame), expected, "{frame:02X?}");
+        numbers[usize::from(expected.number)] += 1;
     }
     numbers
 }
 
-/// Nanoseconds per frame.
-fn time(read: Read, load: &Load) -> f64 {
-    // Called through a pointer that the compiler cannot see through: no side is inlined into the loop.
+/// Reads the frames through a pointer that the compiler cannot see through: no reader is inlined into the loop.
+fn run<T>(read: fn(&[u8]) -> T, load: &Load, cases: Range<usize>) {
     let read = black_box(read);
-    let mut record = BLANK;
-    let start = Instant::now();
-    for frame in load.frames() {
-        black_box(read(frame, &mut record));
-        black_box(&record);
+    for frame in load.frames(cases) {
+        black_box(&read(frame));
     }
-    start.elapsed().as_nanos() as f64 / load.places.len() as f64
 }
 
 fn bench(title: &str, load: &Load) {
-    let mut best = [f64::INFINITY; SIDES.len()];
-    for round in 0..ROUNDS {
-        // The sides take turns at going first.
-        for turn in 0..SIDES.len() {
-            let side = (round + turn) % SIDES.len();
-            best[side] = best[side].min(time(SIDES[side].read, load));
-        }
-    }
-    println!("{title}: best of {ROUNDS} rounds, ns per frame, and the library's time by it");
-    for (side, time) in SIDES.iter().zip(best) {
-        println!("  {:<22} {time:7.2} {:7.2}", side.name, best[0] / time);
-    }
+    let mut sides = [
+        Side { name: "library", run: &mut |cases| run(library::read as fn(&[u8]) -> Reading, load, cases) },
+        Side { name: "reference, its own record", run: &mut |cases| run(frame::read, load, cases) },
+        Side { name: "reference, converted to C's record", run: &mut |cases| run(convert::read, load, cases) },
+        Side { name: "reader that fills C's record", run: &mut |cases| run(direct::read, load, cases) },
+    ];
+    compare(title, "frame", FRAMES, CHUNK, &mut sides);
 }
 
 fn main() {
@@ -153,9 +106,9 @@ fn main() {
         assert!(beacons.iter().any(|beacon| beacon.count == links), "no beacon has {links} links");
     }
 
-    let numbers = compare(&whole);
+    let numbers = check(&whole);
     assert_eq!(numbers[0], FRAMES, "a beacon was refused");
-    let numbers = compare(&broken);
+    let numbers = check(&broken);
     println!("the same, each damaged once: by number from 0 on {numbers:?}");
 
     bench("beacons", &whole);

@@ -1,21 +1,20 @@
-//! Benchmark of the slot decision: the library and the reference on the same schedules, in one run.
+//! Benchmark of the slot decision: the library and the reference on the same schedules, in one run. The reference decides
+//! over its own links, and over C's, which it converts.
 
+use reference::interface as c;
+use reference::measure::{compare, Side, CHUNK};
 use reference::random::Random;
-use reference::slot::{Link, Slot, LARGEST_ASN, SLEEP};
-use reference::{library, slot};
+use reference::slot::{self, Link, Slot, LARGEST_ASN, SLEEP};
+use reference::{convert, library};
 use std::hint::black_box;
-use std::time::Instant;
 
 const SCHEDULES: usize = 100_000;
-const ROUNDS: usize = 25;
 
-type Decide = fn(&[Link], u16, u8, u64, bool) -> Slot;
-
+/// A schedule's place in the one list of all links, and what a decision is given besides the links.
 struct Schedule {
-    /// Where its links stand in the one list of all links.
     start: usize,
     count: usize,
-    size: u16,
+    size: u32,
     asn: u64,
     waits: bool,
 }
@@ -29,7 +28,7 @@ fn schedules(random: &mut Random) -> (Vec<Link>, Vec<Schedule>) {
         let count = random.between(1, 16) as usize;
         let size = match random.below(2) {
             0 => random.pick(&[1, 7, 11, 101]),
-            _ => random.between(1, 65535) as u16,
+            _ => random.between(1, 65535) as u32,
         };
         let asn = random.below(LARGEST_ASN + 1);
         for _ in 0..count {
@@ -48,47 +47,50 @@ fn schedules(random: &mut Random) -> (Vec<Link>, Vec<Schedule>) {
     (links, schedules)
 }
 
-fn answer(decide: Decide, links: &[Link], schedule: &Schedule) -> Slot {
+type Decide<L, S> = fn(&[L], u32, u32, u64, bool) -> S;
+
+fn answer<L, S>(decide: Decide<L, S>, links: &[L], schedule: &Schedule) -> S {
     let lent = &links[schedule.start..schedule.start + schedule.count];
     decide(lent, schedule.size, 0, schedule.asn, schedule.waits)
 }
 
-/// Nanoseconds per decision over all schedules.
-fn time(decide: Decide, links: &[Link], schedules: &[Schedule]) -> f64 {
-    // Called through a pointer that the compiler cannot see through: neither side is inlined into the loop.
+/// Decides through a pointer that the compiler cannot see through: no side is inlined into the loop.
+fn run<L, S>(decide: Decide<L, S>, links: &[L], schedules: &[Schedule]) {
     let decide = black_box(decide);
-    let start = Instant::now();
     for schedule in schedules {
         black_box(answer(decide, links, schedule));
     }
-    start.elapsed().as_nanos() as f64 / schedules.len() as f64
 }
 
 fn main() {
-    let (links, schedules) = schedules(&mut Random::new(0xBE4C));
+    let (own, schedules) = schedules(&mut Random::new(0xBE4C));
+    let links: Vec<c::Link> = own
+        .iter()
+        .map(|link| c::Link { timeslot: link.timeslot, channel_offset: link.offset, options: link.options.into() })
+        .collect();
 
     let mut actions = [0usize; 3];
     for schedule in &schedules {
-        let expected = answer(slot::decide, &links, schedule);
-        assert_eq!(answer(library::decide, &links, schedule), expected, "the two sides differ");
+        let expected = answer(slot::decide, &own, schedule);
+        assert_eq!(answer(library::decide, &links, schedule), c::Slot::of(&expected), "the sides differ");
+        assert_eq!(answer(convert::decide, &links, schedule), c::Slot::of(&expected), "the sides differ");
         assert_eq!(expected.number, 0, "the schedule is valid");
         actions[expected.action as usize] += 1;
     }
     assert!(actions.iter().all(|count| *count > SCHEDULES / 20), "an action is rare: {actions:?}");
-
-    let mut best = [f64::INFINITY; 2];
-    let sides: [Decide; 2] = [library::decide, slot::decide];
-    for round in 0..ROUNDS {
-        // The sides take turns at going first.
-        for turn in 0..2 {
-            let side = (round + turn) % 2;
-            best[side] = best[side].min(time(sides[side], &links, &schedules));
-        }
-    }
-
-    println!("{SCHEDULES} schedules, {} links, best of {ROUNDS} rounds", links.len());
+    println!("{SCHEDULES} schedules, {} links", links.len());
     println!("sleep {}, transmit {}, listen {}", actions[SLEEP as usize], actions[1], actions[2]);
-    println!("library   {:7.2} ns per decision", best[0]);
-    println!("reference {:7.2} ns per decision", best[1]);
-    println!("ratio     {:7.2}", best[0] / best[1]);
+
+    let mut sides = [
+        Side {
+            name: "library",
+            run: &mut |cases| run(library::decide as Decide<c::Link, c::Slot>, &links, &schedules[cases]),
+        },
+        Side {
+            name: "reference, its own links",
+            run: &mut |cases| run(slot::decide as Decide<Link, Slot>, &own, &schedules[cases]),
+        },
+        Side { name: "reference, C's links", run: &mut |cases| run(convert::decide, &links, &schedules[cases]) },
+    ];
+    compare("schedules", "decision", SCHEDULES, CHUNK, &mut sides);
 }

@@ -1,23 +1,30 @@
-//! Benchmark of the neighbour table: evaluations of full tables and the replay of the longest log, by the library and by
-//! the reference, in one run. Both do the same job on the same lent numbers and lists: the reference converts from them
-//! and back. Beside it stands the reference on its own tables and calls, which it need not convert.
+//! Benchmark of the neighbour table: evaluations, advertisements and reports on full tables and on small ones, and the
+//! replay of logs, by the library and by the reference, in one run. The library and the reference do the same job on the
+//! same table in C's form: the reference converts from it and back. Beside it stands the reference on its own tables and
+//! calls, which it need not convert.
 
-use reference::lent::{self, Log, Reply, MOST_ROWS};
-use reference::library;
+use reference::interface as c;
+use reference::log::{self, Log};
+use reference::measure::{compare, Side};
 use reference::random::Random;
 use reference::stability;
-use reference::table::{Call, Numbers, Place, Table, PLACES};
+use reference::table::{Answer, Call, Place, Table, PLACES};
+use reference::{convert, library};
 use std::hint::black_box;
-use std::time::Instant;
 
-const TABLES: usize = 10_000;
-const ROUNDS: usize = 25;
-const SIDES: [&str; 3] = ["library", "reference", "reference, own types"];
+const TABLES: usize = 20_000;
 
-/// A sound table with 32 eligible neighbours. Ranks lie close enough together that evaluations keep and change parents.
-fn full_table(random: &mut Random) -> Table {
+/// Tables are large, so that a chunk has fewer.
+const CHUNK: usize = 1_000;
+
+const LOGS: usize = 200;
+const ROWS: usize = 500;
+
+/// A sound table with so many eligible neighbours in its first places. Ranks lie close enough together that evaluations
+/// keep and change parents.
+fn table(random: &mut Random, neighbours: usize) -> Table {
     let mut table = Table::default();
-    for index in 0..PLACES {
+    for index in 0..neighbours {
         let mut identifier = random.number();
         while table.find(identifier).is_some() {
             identifier = random.number();
@@ -27,15 +34,15 @@ fn full_table(random: &mut Random) -> Table {
         let rank = random.between(256, 2000) as u16;
         table.places[index] = Place { used: true, identifier, rank, attempts, acknowledged };
     }
-    assert!(table.sound() && table.places.iter().all(Place::eligible));
+    assert!(table.sound() && table.places[..neighbours].iter().all(Place::eligible));
     if random.chance(90) {
-        table.held = Some(random.pick(&table.places).identifier);
+        table.held = Some(random.pick(&table.places[..neighbours]).identifier);
     }
     table
 }
 
 /// Calls on a table's neighbours: half reports, and evaluations between changes of ranks and counters.
-fn random_log(random: &mut Random, table: &Table) -> Vec<Call> {
+fn random_calls(random: &mut Random, table: &Table, count: usize) -> Vec<Call> {
     let call = |_| {
         let identifier = random.pick(&table.places).identifier;
         match random.below(100) {
@@ -45,110 +52,156 @@ fn random_log(random: &mut Random, table: &Table) -> Vec<Call> {
             _ => Call::Evaluate,
         }
     };
-    (0..MOST_ROWS).map(call).collect()
+    (0..count).map(call).collect()
 }
 
-fn by_library(numbers: &mut Numbers) -> Reply {
-    library::call(numbers, &Call::Evaluate)
+/// A table in both forms, and a call on it.
+struct Case {
+    own: Table,
+    table: c::Table,
+    call: Call,
 }
 
-fn by_reference(numbers: &mut Numbers) -> Reply {
-    lent::call(numbers, &Call::Evaluate)
+fn by_reference_alone(table: &Table, call: &Call) -> Answer {
+    table.call(call)
 }
 
-fn by_reference_alone(table: &mut Table) -> Reply {
-    let (number, after, own_rank) = table.evaluate();
-    *table = after;
-    Reply { number, own_rank: Some(own_rank) }
+/// The library's answer in the form that it has for this kind of call.
+fn evaluate(table: &c::Table, _: &Call) -> c::Evaluation {
+    library::evaluate(table)
 }
 
-/// Nanoseconds per evaluation over all tables.
-fn time<T>(evaluate: fn(&mut T) -> Reply, tables: &mut [T]) -> f64 {
-    // Called through a pointer that the compiler cannot see through: no side is inlined into the loop.
-    let evaluate = black_box(evaluate);
-    let start = Instant::now();
-    for table in tables.iter_mut() {
-        black_box(evaluate(table));
+fn advertise(table: &c::Table, call: &Call) -> c::TableAnswer {
+    let Call::Advertise { identifier, rank } = *call else { panic!("another call") };
+    library::advertise(table, identifier, rank)
+}
+
+fn report(table: &c::Table, call: &Call) -> c::TableAnswer {
+    let Call::Report { identifier, attempts, acknowledged } = *call else { panic!("another call") };
+    library::report(table, identifier, attempts as u32, acknowledged)
+}
+
+/// Calls through a pointer that the compiler cannot see through: no side is inlined into the loop.
+fn run<T, A>(call: fn(&T, &Call) -> A, cases: &[Case], table: fn(&Case) -> &T) {
+    let call = black_box(call);
+    for case in cases {
+        black_box(&call(table(case), &case.call));
     }
-    start.elapsed().as_nanos() as f64 / tables.len() as f64
 }
 
-/// The best of all rounds; in each the sides take turns at going first.
-fn best_of(sides: [&mut dyn FnMut() -> f64; 3]) -> [f64; 3] {
-    let mut best = [f64::INFINITY; 3];
-    for round in 0..ROUNDS {
-        for turn in 0..3 {
-            let side = (round + turn) % 3;
-            best[side] = best[side].min(sides[side]());
-        }
+fn bench_calls<A>(title: &str, what: &str, by_library: fn(&c::Table, &Call) -> A, cases: &[Case]) {
+    for case in cases {
+        let expected = convert::call(&case.table, &case.call);
+        assert_eq!(library::call(&case.table, &case.call), expected, "the sides differ");
+        assert_eq!(expected.number(), 0, "the call is valid");
     }
-    best
+    let mut sides = [
+        Side { name: "library", run: &mut |chunk| run(by_library, &cases[chunk], |case| &case.table) },
+        Side {
+            name: "reference, its own table",
+            run: &mut |chunk| run(by_reference_alone, &cases[chunk], |case| &case.own),
+        },
+        Side { name: "reference, C's table", run: &mut |chunk| run(convert::call, &cases[chunk], |case| &case.table) },
+    ];
+    compare(title, what, cases.len(), CHUNK, &mut sides);
 }
 
-fn print(best: [f64; 3], what: &str) {
-    for (side, time) in SIDES.iter().zip(best) {
-        println!("{side:<20} {time:9.2} ns per {what}");
-    }
-    println!("{:<20} {:9.2}", "ratio", best[0] / best[1]);
-    println!("{:<20} {:9.2}", "ratio, own types", best[0] / best[2]);
-}
-
-fn evaluations(random: &mut Random) {
-    let tables: Vec<Table> = (0..TABLES).map(|_| full_table(random)).collect();
-    let numbers: Vec<Numbers> = tables.iter().map(Table::to_numbers).collect();
-
+fn calls(random: &mut Random, title: &str, neighbours: std::ops::RangeInclusive<u64>) {
+    let tables: Vec<Table> = (0..TABLES)
+        .map(|_| {
+            let count = random.between(*neighbours.start(), *neighbours.end()) as usize;
+            table(random, count)
+        })
+        .collect();
     let mut choices = [0usize; 3];
-    for (table, lent) in tables.iter().zip(&numbers) {
-        let (mut own, mut left, mut right) = (table.clone(), *lent, *lent);
-        let expected = by_reference_alone(&mut own);
-        assert_eq!((by_library(&mut left), by_reference(&mut right)), (expected, expected), "the sides differ");
-        assert!(left == own.to_numbers() && right == left, "the sides differ");
-        let choice = if table.held == own.held { 0 } else { 1 + usize::from(table.held.is_none()) };
-        choices[choice] += 1;
+    for own in &tables {
+        let after = own.evaluate().1;
+        choices[if own.held == after.held { 0 } else { 1 + usize::from(own.held.is_none()) }] += 1;
     }
-    assert!(choices.iter().all(|count| *count > TABLES / 20), "a choice is rare: {choices:?}");
+    println!(
+        "{title}: an evaluation keeps {}, changes {}, takes a first parent {}",
+        choices[0], choices[1], choices[2]
+    );
+    assert!(choices.iter().all(|count| *count > TABLES / 100), "a choice is rare: {choices:?}");
 
-    // Each round starts from the tables as they were: an evaluation of its own answer would always keep the parent.
-    let best = best_of([
-        &mut || time(by_library, &mut numbers.clone()),
-        &mut || time(by_reference, &mut numbers.clone()),
-        &mut || time(by_reference_alone, &mut tables.clone()),
-    ]);
-    println!("{TABLES} tables with {PLACES} eligible neighbours, best of {ROUNDS} rounds");
-    println!("kept {}, changed {}, first parent {}", choices[0], choices[1], choices[2]);
-    print(best, "evaluation");
+    let cases = |call: &mut dyn FnMut(&Table) -> Call| -> Vec<Case> {
+        tables.iter().map(|own| Case { own: own.clone(), table: c::Table::of(own), call: call(own) }).collect()
+    };
+    let mut known = |own: &Table| loop {
+        let place = random.pick(&own.places);
+        if place.used {
+            break place.identifier;
+        }
+    };
+    bench_calls("evaluate", "evaluation", evaluate, &cases(&mut |_| Call::Evaluate));
+    let advertisements = cases(&mut |own| Call::Advertise { identifier: known(own), rank: 700 });
+    bench_calls("advertise, a known neighbour", "advertisement", advertise, &advertisements);
+    let reports = cases(&mut |own| Call::Report { identifier: known(own), attempts: 2, acknowledged: true });
+    bench_calls("report", "report", report, &reports);
 }
 
-/// Nanoseconds per call of a log.
-fn time_log<T>(replay: impl FnOnce() -> T) -> f64 {
-    let start = Instant::now();
-    black_box(replay());
-    start.elapsed().as_nanos() as f64 / MOST_ROWS as f64
+/// A log in both forms, and the table that it starts from.
+struct Run {
+    own: Table,
+    table: c::Table,
+    calls: Vec<Call>,
+    log: Log,
 }
 
-fn replay(random: &mut Random) {
-    let table = full_table(random);
-    let calls = random_log(random, &table);
-    let (numbers, log) = (table.to_numbers(), Log::of(&calls));
+fn replays(random: &mut Random) {
+    let runs: Vec<Run> = (0..LOGS)
+        .map(|_| {
+            let own = table(random, PLACES);
+            let calls = random_calls(random, &own, ROWS);
+            Run { table: c::Table::of(&own), log: Log::of(&calls), own, calls }
+        })
+        .collect();
+    let (mut evaluations, mut changes) = (0, 0);
+    for run in &runs {
+        let replay = library::replay(&run.table, &run.log);
+        assert_eq!(replay, log::replay(&run.table, &run.log), "the sides differ");
+        assert_eq!(replay.number, 0, "the log is valid");
+        evaluations += replay.evaluations;
+        changes += replay.changes;
+    }
+    println!("{LOGS} logs of {ROWS} calls on full tables: {evaluations} evaluations, {changes} changes");
 
-    let (mut left, mut right) = (numbers, numbers);
-    let replayed = library::replay(&mut left, &log);
-    assert!(replayed.agrees(&lent::replay(&mut right, &log)) && left == right, "the sides differ");
-    assert_eq!(replayed.number, 0, "the log is valid");
-
-    let best = best_of([
-        &mut || time_log(|| library::replay(&mut black_box(numbers), black_box(&log))),
-        &mut || time_log(|| lent::replay(&mut black_box(numbers), black_box(&log))),
-        &mut || time_log(|| stability::run(black_box(&table), black_box(&calls))),
-    ]);
-    println!("replay of {MOST_ROWS} calls, best of {ROUNDS} rounds");
-    println!("evaluations {}, changes {}", replayed.evaluations, replayed.changes);
-    print(best, "call");
+    // Chunks of whole logs, a case being one call.
+    let logs = |chunk: std::ops::Range<usize>| &runs[chunk.start / ROWS..chunk.end / ROWS];
+    let mut sides = [
+        Side {
+            name: "library",
+            run: &mut |chunk| {
+                for run in logs(chunk) {
+                    black_box(&library::replay(black_box(&run.table), black_box(&run.log)));
+                }
+            },
+        },
+        Side {
+            name: "reference, its own table and calls",
+            run: &mut |chunk| {
+                for run in logs(chunk) {
+                    black_box(&stability::run(black_box(&run.own), black_box(&run.calls)));
+                }
+            },
+        },
+        Side {
+            name: "reference, C's table and log",
+            run: &mut |chunk| {
+                for run in logs(chunk) {
+                    black_box(&log::replay(black_box(&run.table), black_box(&run.log)));
+                }
+            },
+        },
+    ];
+    compare("replay", "call", LOGS * ROWS, 4 * ROWS, &mut sides);
 }
 
 fn main() {
     let mut random = Random::new(0xBE7AB);
-    evaluations(&mut random);
+    calls(&mut random, &format!("{TABLES} full tables"), PLACES as u64..=PLACES as u64);
     println!();
-    replay(&mut random);
+    calls(&mut random, &format!("{TABLES} tables of 1 to 12 neighbours"), 1..=12);
+    println!();
+    replays(&mut random);
 }

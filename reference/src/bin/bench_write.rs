@@ -1,61 +1,36 @@
-//! Benchmark of writing: the library and the reference on the same records, in one run, each into a room of 125 bytes.
+//! Benchmark of writing: the library and the reference on the same records, in one run, each into a buffer of 125 bytes.
 //!
-//! The library writes from the four arrays that hold a record; so does the reference, which makes its own record of
-//! them first, and it also writes from its own record.
+//! The library writes from C's record; so does the reference, which makes its own record of it first, and it also writes
+//! from its own record.
 
 use reference::beacons::random_beacon;
-use reference::flat::Flat;
 use reference::frame::{Address, LONGEST_FRAME};
-use reference::library;
+use reference::interface as c;
+use reference::measure::{compare, Side, CHUNK};
 use reference::parts::house_form;
 use reference::random::Random;
 use reference::slot::MOST_LINKS;
-use reference::write::{write, write_flat, Record, Refusal};
+use reference::write::{write, Record};
+use reference::{convert, library};
 use std::collections::HashSet;
 use std::hint::black_box;
-use std::time::Instant;
 
 const RECORDS: usize = 100_000;
-const ROUNDS: usize = 25;
 
-/// Writes a record, from the arrays or from the reference's own; gives the number and the length.
-#[derive(Clone, Copy)]
-enum Write {
-    Arrays(fn(&Flat, &mut [u8]) -> (u8, usize)),
-    Record(fn(&Record, &mut [u8]) -> (u8, usize)),
+type Write<T> = fn(&T, &mut [u8]) -> c::Written;
+
+fn by_reference(beacon: &c::Beacon, buffer: &mut [u8]) -> c::Written {
+    c::Written::of(&convert::write(beacon, buffer))
 }
 
-struct Side {
-    name: &'static str,
-    write: Write,
-}
-
-/// The library comes first; the others are what it is compared with.
-const SIDES: [Side; 3] = [
-    Side { name: "library", write: Write::Arrays(library::write) },
-    Side { name: "reference, arrays", write: Write::Arrays(write_arrays) },
-    Side { name: "reference, own record", write: Write::Record(write_record) },
-];
-
-fn write_arrays(flat: &Flat, room: &mut [u8]) -> (u8, usize) {
-    answer(write_flat(flat, room))
-}
-
-fn write_record(record: &Record, room: &mut [u8]) -> (u8, usize) {
-    answer(write(record, room))
-}
-
-fn answer(answer: Result<usize, Refusal>) -> (u8, usize) {
-    match answer {
-        Ok(length) => (0, length),
-        Err(refusal) => (refusal.number(), 0),
-    }
+fn by_reference_alone(record: &Record, buffer: &mut [u8]) -> c::Written {
+    c::Written::of(&write(record, buffer))
 }
 
 /// The same records in both forms, and their frames.
 #[derive(Default)]
 struct Load {
-    arrays: Vec<Flat>,
+    beacons: Vec<c::Beacon>,
     records: Vec<Record>,
     frames: Vec<Vec<u8>>,
 }
@@ -68,60 +43,32 @@ fn load(random: &mut Random) -> Load {
         let beacon = random_beacon(random, LONGEST_FRAME);
         let frame = house_form(&beacon).bytes();
         if seen.insert(frame.clone()) {
-            let record = Record::from_beacon(&beacon);
-            load.arrays.push(record.to_flat());
-            load.records.push(record);
+            load.beacons.push(c::Beacon::of(&beacon));
+            load.records.push(Record::from_beacon(&beacon));
             load.frames.push(frame);
         }
     }
     load
 }
 
-/// All sides must write the frame and leave the rest of the room.
-fn compare(load: &Load) {
-    for (place, frame) in load.frames.iter().enumerate() {
+/// All sides must write the frames and leave the rest of the buffer.
+fn check<T: std::fmt::Debug>(name: &str, write: Write<T>, records: &[T], frames: &[Vec<u8>]) {
+    for (record, frame) in records.iter().zip(frames) {
         let mut expected = [0x55; LONGEST_FRAME];
         expected[..frame.len()].copy_from_slice(frame);
-        for side in &SIDES {
-            let mut room = [0x55; LONGEST_FRAME];
-            let answer = match side.write {
-                Write::Arrays(write) => write(&load.arrays[place], &mut room),
-                Write::Record(write) => write(&load.records[place], &mut room),
-            };
-            assert_eq!((answer, room), ((0, frame.len()), expected), "{}: {:?}", side.name, load.records[place]);
-        }
+        let mut buffer = [0x55; LONGEST_FRAME];
+        let written = c::Written { number: 0, length: frame.len() };
+        assert_eq!((write(record, &mut buffer), buffer), (written, expected), "{name}: {record:?}");
     }
 }
 
-/// Nanoseconds per record.
-fn time<T>(write: fn(&T, &mut [u8]) -> (u8, usize), records: &[T]) -> f64 {
-    // Called through a pointer that the compiler cannot see through: no side is inlined into the loop.
+/// Writes records through a pointer that the compiler cannot see through: no writer is inlined into the loop.
+fn run<T>(write: Write<T>, records: &[T]) {
     let write = black_box(write);
-    let mut room = [0; LONGEST_FRAME];
-    let start = Instant::now();
+    let mut buffer = [0; LONGEST_FRAME];
     for record in records {
-        black_box(write(record, &mut room));
-        black_box(&room);
-    }
-    start.elapsed().as_nanos() as f64 / records.len() as f64
-}
-
-fn bench(load: &Load) {
-    let mut best = [f64::INFINITY; SIDES.len()];
-    for round in 0..ROUNDS {
-        // The sides take turns at going first.
-        for turn in 0..SIDES.len() {
-            let side = (round + turn) % SIDES.len();
-            let time = match SIDES[side].write {
-                Write::Arrays(write) => time(write, &load.arrays),
-                Write::Record(write) => time(write, &load.records),
-            };
-            best[side] = best[side].min(time);
-        }
-    }
-    println!("records: best of {ROUNDS} rounds, ns per record, and the library's time by it");
-    for (side, time) in SIDES.iter().zip(best) {
-        println!("  {:<22} {time:7.2} {:7.2}", side.name, best[0] / time);
+        black_box(write(record, &mut buffer));
+        black_box(&buffer);
     }
 }
 
@@ -138,6 +85,13 @@ fn main() {
         assert!(load.records.iter().any(|record| usize::from(record.count) == links), "no record has {links} links");
     }
 
-    compare(&load);
-    bench(&load);
+    check("library", library::write, &load.beacons, &load.frames);
+    check("reference, C's record", by_reference, &load.beacons, &load.frames);
+    check("reference, its own record", by_reference_alone, &load.records, &load.frames);
+    let mut sides = [
+        Side { name: "library", run: &mut |cases| run(library::write, &load.beacons[cases]) },
+        Side { name: "reference, its own record", run: &mut |cases| run(by_reference_alone, &load.records[cases]) },
+        Side { name: "reference, from C's record", run: &mut |cases| run(by_reference, &load.beacons[cases]) },
+    ];
+    compare("records", "record", RECORDS, CHUNK, &mut sides);
 }

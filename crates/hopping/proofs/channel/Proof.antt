@@ -3,8 +3,8 @@ use Prim.Native.Nat.{ℕ, _%_}
 use mathlib.Core.Path.{_∙_, ap}
 use native.Mathlib.Nat.{mod-add-mod, add-mod-mod}
 use lib.ListN.{getD}
-use Rattle.hopping.specs.Hopping.{hopping, channelOf}
-use Rattle.hopping.proofs.Permutation.{hopping-permutes}
+use Rattle.slot_spec.specs.Hopping.{hopping, channelOf}
+use Rattle.slot_spec.proofs.Permutation.{hopping-permutes}
 use borrow.Author.Needs.{needs}
 use Rattle.hopping.proofs.channel.Statement.{statement}
 use Rattle.hopping.proofs.channel.Tie as tie

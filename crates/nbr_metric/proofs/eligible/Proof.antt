@@ -1,50 +1,18 @@
--- `nbr_metric::eligible` meets its contract. Assumes nothing.
 use Rattle.nbr_metric_spec.proofs.MetricLaws.{costWays}
 use borrow.Author.Needs.{needs}
 use Rattle.nbr_metric.proofs.eligible.Statement.{statement}
 use Rattle.nbr_metric.proofs.eligible.Tie as tie
+use Rattle.nbr_metric.proofs.eligible.Reads as reads
+use Rattle.nbr_metric.proofs.eligible.Lts as lts
+use Rattle.nbr_metric.proofs.offer.Reads as offer-reads
 
+-- src/lib.rt:56:5
+offer-requires : tie.Need-offer-requires
+offer-requires c κs = search needs
+
+-- src/lib.rt:53:1
 returns : tie.Need-returns
 returns c = search (needs, costWays)
 
-returns-2 : tie.Need-returns-2
-returns-2 c = search (needs, costWays)
-
-wide-requires : tie.Need-wide-requires
-wide-requires c κs = search needs
-
-mul-if4 : tie.Need-mul-if4
-mul-if4 c = search needs
-
-wide-requires-2 : tie.Need-wide-requires-2
-wide-requires-2 c κs = search needs
-
-mul-if4-2 : tie.Need-mul-if4-2
-mul-if4-2 c = search needs
-
-returns-3 : tie.Need-returns-3
-returns-3 c = search (needs, costWays)
-
-path-cost-requires : tie.Need-path-cost-requires
-path-cost-requires c κs = search needs
-
-returns-4 : tie.Need-returns-4
-returns-4 c = search (needs, costWays)
-
-returns-5 : tie.Need-returns-5
-returns-5 c = search (needs, costWays)
-
 pub eligible-spec : {M : Type 1} → statement M
-eligible-spec =
-    tie.close
-    (tie.spec
-    returns
-    returns-2
-    wide-requires
-    mul-if4
-    wide-requires-2
-    mul-if4-2
-    returns-3
-    path-cost-requires
-    returns-4
-    returns-5)
+eligible-spec = tie.close (tie.spec offer-requires returns)

@@ -1,6 +1,7 @@
 -- `nbr_table::is_broken` meets its contract. Assumes nothing.
 use Rattle.nbr_table_spec.proofs.CallLaws.{checkWays}
 use borrow.Author.Needs.{needs}
+use borrow.Author.Needs.{needs}
 use Rattle.nbr_table.proofs.is_broken.Statement.{statement}
 use Rattle.nbr_table.proofs.is_broken.Tie as tie
 
@@ -25,4 +26,10 @@ returns-3 c = search (needs, checkWays)
 pub is-broken-spec : {M : Type 1} → statement M
 is-broken-spec =
     tie.close
-    (tie.spec any-unfit-requires returns any-twice-requires returns-2 is-parent-missing-requires returns-3)
+    (tie.spec
+    any-unfit-requires
+    returns
+    any-twice-requires
+    returns-2
+    is-parent-missing-requires
+    returns-3)

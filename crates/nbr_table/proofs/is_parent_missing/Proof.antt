@@ -4,8 +4,8 @@ use borrow.Author.Needs.{needs}
 use Rattle.nbr_table.proofs.is_parent_missing.Statement.{statement}
 use Rattle.nbr_table.proofs.is_parent_missing.Tie as tie
 
-enum-known-q : tie.Need-enum-known-q
-enum-known-q c = search needs
+enum-known-parent : tie.Need-enum-known-parent
+enum-known-parent c = search needs
 
 find-requires : tie.Need-find-requires
 find-requires c κs = search needs
@@ -24,4 +24,4 @@ returns-3 c = search (needs, checkWays)
 
 pub is-parent-missing-spec : {M : Type 1} → statement M
 is-parent-missing-spec =
-    tie.close (tie.spec enum-known-q find-requires returns enum-told returns-2 returns-3)
+    tie.close (tie.spec enum-known-parent find-requires returns enum-told returns-2 returns-3)

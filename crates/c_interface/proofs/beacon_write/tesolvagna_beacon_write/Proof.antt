@@ -1,4 +1,5 @@
 -- `c_interface::beacon_write::tesolvagna_beacon_write` meets its contract. Assumes nothing.
+use Rattle.eb_write_spec.proofs.Claimed.{form-numbers}
 use Rattle.eb_write_spec.proofs.FormLaws.{forms}
 use borrow.Author.Needs.{needs}
 use Rattle.c_interface.proofs.beacon_write.tesolvagna_beacon_write.Statement.{statement}
@@ -8,7 +9,7 @@ is-beacon-requires : tie.Need-is-beacon-requires
 is-beacon-requires c κs = search needs
 
 returns : tie.Need-returns
-returns c = search (needs, forms)
+returns c = (search (needs, forms), (search (needs, forms), form-numbers))
 
 beacon-of-requires : tie.Need-beacon-of-requires
 beacon-of-requires c κs = search needs
@@ -20,7 +21,7 @@ same-length : tie.Need-same-length
 same-length c = search needs
 
 returns-2 : tie.Need-returns-2
-returns-2 c = search (needs, forms)
+returns-2 c = (search (needs, forms), (search (needs, forms), form-numbers))
 
 pub tesolvagna-beacon-write-spec : {M : Type 1} → statement M
 tesolvagna-beacon-write-spec =

@@ -1,5 +1,5 @@
 -- `nbr_calls::advertise::newcomer` meets its contract. Assumes nothing.
-use Rattle.nbr_table_spec.proofs.CallLaws.{advertiseWays}
+use Rattle.nbr_table_spec.proofs.StoreLaws.{advertiseWays}
 use borrow.Author.Needs.{needs}
 use Rattle.nbr_calls.proofs.advertise.newcomer.Statement.{statement}
 use Rattle.nbr_calls.proofs.advertise.newcomer.Tie as tie

@@ -7,20 +7,11 @@ use Rattle.nbr_calls.proofs.evaluate.evaluate.Tie as tie
 is-broken-requires : tie.Need-is-broken-requires
 is-broken-requires c κs = search needs
 
-refused-requires : tie.Need-refused-requires
-refused-requires c κs = search needs
-
 returns : tie.Need-returns
 returns c = search (needs, evaluateWays)
 
-held-requires : tie.Need-held-requires
-held-requires c κs = search needs
-
-best-requires : tie.Need-best-requires
-best-requires c κs = search needs
-
-choose-requires : tie.Need-choose-requires
-choose-requires c κs = search needs
+settle-requires : tie.Need-settle-requires
+settle-requires c κs = search needs
 
 with-parent-requires : tie.Need-with-parent-requires
 with-parent-requires c κs = search needs
@@ -30,13 +21,4 @@ returns-2 c = search (needs, evaluateWays)
 
 pub evaluate-spec : {M : Type 1} → statement M
 evaluate-spec =
-    tie.close
-    (tie.spec
-    is-broken-requires
-    refused-requires
-    returns
-    held-requires
-    best-requires
-    choose-requires
-    with-parent-requires
-    returns-2)
+    tie.close (tie.spec is-broken-requires returns settle-requires with-parent-requires returns-2)

@@ -1,5 +1,5 @@
 -- `nbr_calls::forget::forget` meets its contract. Assumes nothing.
-use Rattle.nbr_table_spec.proofs.CallLaws.{forgetWays}
+use Rattle.nbr_table_spec.proofs.StoreLaws.{forgetWays}
 use borrow.Author.Needs.{needs}
 use Rattle.nbr_calls.proofs.forget.forget.Statement.{statement}
 use Rattle.nbr_calls.proofs.forget.forget.Tie as tie
@@ -10,11 +10,8 @@ is-broken-requires c κs = search needs
 returns : tie.Need-returns
 returns c = search (needs, forgetWays)
 
-find-requires : tie.Need-find-requires
-find-requires c κs = search needs
-
-blank-requires : tie.Need-blank-requires
-blank-requires c κs = search needs
+forgetting-requires : tie.Need-forgetting-requires
+forgetting-requires c κs = search needs
 
 with-place-requires : tie.Need-with-place-requires
 with-place-requires c κs = search needs
@@ -28,19 +25,14 @@ with-parent-requires c κs = search needs
 returns-2 : tie.Need-returns-2
 returns-2 c = search (needs, forgetWays)
 
-returns-3 : tie.Need-returns-3
-returns-3 c = search (needs, forgetWays)
-
 pub forget-spec : {M : Type 1} → statement M
 forget-spec =
     tie.close
     (tie.spec
     is-broken-requires
     returns
-    find-requires
-    blank-requires
+    forgetting-requires
     with-place-requires
     without-requires
     with-parent-requires
-    returns-2
-    returns-3)
+    returns-2)

@@ -1,5 +1,5 @@
 -- `nbr_calls::report::attempted` meets its contract. Assumes nothing.
-use Rattle.nbr_table_spec.proofs.CallLaws.{reportWays}
+use Rattle.nbr_table_spec.proofs.StoreLaws.{reportWays}
 use borrow.Author.Needs.{needs}
 use Rattle.nbr_calls.proofs.report.attempted.Statement.{statement}
 use Rattle.nbr_calls.proofs.report.attempted.Tie as tie

@@ -1,5 +1,5 @@
 -- `nbr_metric::join_metric::join_metric` meets its contract. Assumes nothing.
-use Rattle.nbr_metric.proofs.JoinLaws.{joinWays}
+use Rattle.nbr_metric_spec.proofs.JoinLaws.{joinWays}
 use borrow.Author.Needs.{needs}
 use Rattle.nbr_metric.proofs.join_metric.join_metric.Statement.{statement}
 use Rattle.nbr_metric.proofs.join_metric.join_metric.Tie as tie

@@ -4,8 +4,8 @@ use borrow.Author.Needs.{needs}
 use Rattle.nbr_parent.proofs.held_parent.place_of.Statement.{statement}
 use Rattle.nbr_parent.proofs.held_parent.place_of.Tie as tie
 
-enum-known-q : tie.Need-enum-known-q
-enum-known-q c = search needs
+enum-known-parent : tie.Need-enum-known-parent
+enum-known-parent c = search needs
 
 find-requires : tie.Need-find-requires
 find-requires c κs = search needs
@@ -29,7 +29,7 @@ pub place-of-spec : {M : Type 1} → statement M
 place-of-spec =
     tie.close
     (tie.spec
-    enum-known-q
+    enum-known-parent
     find-requires
     place-at-requires
     enum-told

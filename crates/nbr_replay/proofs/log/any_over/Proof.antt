@@ -2,8 +2,8 @@
 use Prim.Native.Nat.{_-_, _≤_}
 use mathlib.Core.Path.{_≡_}
 use lib.ListN.{length, drop}
-use Rattle.nbr_replay.specs.Log.{someOver}
-use Rattle.nbr_replay.proofs.LogLaws.{logWays}
+use Rattle.nbr_replay_spec.specs.Log.{someOver}
+use Rattle.nbr_replay_spec.proofs.LogLaws.{logWays}
 use borrow.Author.Needs.{needs}
 use Rattle.nbr_replay.proofs.log.any_over.Statement.{statement}
 use Rattle.nbr_replay.proofs.log.any_over.Tie as tie

@@ -1,5 +1,5 @@
 -- `nbr_replay::log::are_equally_long` meets its contract. Assumes nothing.
-use Rattle.nbr_replay.proofs.LogLaws.{logWays}
+use Rattle.nbr_replay_spec.proofs.LogLaws.{logWays}
 use borrow.Author.Needs.{needs}
 use Rattle.nbr_replay.proofs.log.are_equally_long.Statement.{statement}
 use Rattle.nbr_replay.proofs.log.are_equally_long.Tie as tie

@@ -1,5 +1,5 @@
 -- `nbr_replay::visit::change` meets its contract. Assumes nothing.
-use Rattle.nbr_replay.proofs.VisitLaws.{visitWays}
+use Rattle.nbr_replay_spec.proofs.VisitLaws.{visitWays}
 use borrow.Author.Needs.{needs}
 use Rattle.nbr_replay.proofs.visit.change.Statement.{statement}
 use Rattle.nbr_replay.proofs.visit.change.Tie as tie

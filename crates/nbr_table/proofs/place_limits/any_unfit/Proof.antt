@@ -2,8 +2,8 @@
 use Prim.Native.Nat.{_-_, _≤_}
 use mathlib.Core.Path.{_≡_}
 use lib.ListN.{length, drop}
-use Rattle.nbr_places_spec.specs.Places.{some, unfit}
-use Rattle.nbr_places_spec.proofs.PlaceLaws.{limitWays}
+use Rattle.nbr_table_spec.specs.Places.{some, unfit}
+use Rattle.nbr_table_spec.proofs.PlaceLaws.{limitWays}
 use borrow.Author.Needs.{needs}
 use Rattle.nbr_table.proofs.place_limits.any_unfit.Statement.{statement}
 use Rattle.nbr_table.proofs.place_limits.any_unfit.Tie as tie

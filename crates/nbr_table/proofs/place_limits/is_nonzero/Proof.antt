@@ -1,5 +1,5 @@
 -- `nbr_table::place_limits::is_nonzero` meets its contract. Assumes nothing.
-use Rattle.nbr_places_spec.proofs.PlaceLaws.{limitWays}
+use Rattle.nbr_table_spec.proofs.PlaceLaws.{limitWays}
 use borrow.Author.Needs.{needs}
 use Rattle.nbr_table.proofs.place_limits.is_nonzero.Statement.{statement}
 use Rattle.nbr_table.proofs.place_limits.is_nonzero.Tie as tie

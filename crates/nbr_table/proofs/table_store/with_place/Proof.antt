@@ -4,11 +4,11 @@ use borrow.Author.Needs.{needs}
 use Rattle.nbr_table.proofs.table_store.with_place.Statement.{statement}
 use Rattle.nbr_table.proofs.table_store.with_place.Tie as tie
 
-mul-p : tie.Need-mul-p
-mul-p c = search needs
+mul-place : tie.Need-mul-place
+mul-place c = search needs
 
-element-set-from-p : tie.Need-element-set-from-p
-element-set-from-p c = search needs
+element-set-from-place : tie.Need-element-set-from-place
+element-set-from-place c = search needs
 
 returns : tie.Need-returns
 returns c = search needs
@@ -17,4 +17,4 @@ returns-2 : tie.Need-returns-2
 returns-2 c = search (needs, storeWays)
 
 pub with-place-spec : {M : Type 1} → statement M
-with-place-spec = tie.close (tie.spec mul-p element-set-from-p returns returns-2)
+with-place-spec = tie.close (tie.spec mul-place element-set-from-place returns returns-2)

@@ -1,0 +1,79 @@
+// Between the C form of a table and the table: the held parent, whether a C form is refused, and a change stored in it.
+use c_table_spec::TableAnswer;
+use c_table_spec::TableForm;
+use nbr_metric_spec::Place;
+use nbr_table_spec::Change;
+use nbr_table_spec::PLACES;
+use nbr_table_spec::Parent;
+ghost use mathlib.Core.Path.{_≡_};
+ghost use Rattle.c_table_spec.specs.Table.{idOf, isParent, markOf, parentOf, refused, storedForm};
+
+// The parent that a mark and an identifier are.
+pub fn parent_of(held: bool, id: u64) -> Parent
+    ensures { λ r. ⌜ r ≡ parentOf held id ⌝ }
+{
+    if held {
+        return Parent::Held(id);
+    }
+    Parent::None
+}
+
+// Whether a parent is held.
+pub fn mark_of(parent: Parent) -> bool
+    ensures { λ r. ⌜ r ≡ markOf parent ⌝ }
+{
+    match parent {
+        Parent::Held(_) => true,
+        Parent::None => false,
+    }
+}
+
+// The held parent's identifier, 0 for none.
+pub fn id_of(parent: Parent) -> u64
+    ensures { λ r. ⌜ r ≡ idOf parent ⌝ }
+{
+    match parent {
+        Parent::Held(id) => id,
+        Parent::None => 0,
+    }
+}
+
+// Whether a mark and an identifier are a held parent or none: no identifier where none is held.
+pub fn is_parent(held: bool, id: u64) -> bool
+    ensures { λ r. ⌜ r ≡ isParent held id ⌝ }
+{
+    if held {
+        return true;
+    }
+    id == 0
+}
+
+// Whether every call refuses a C form: it is no table's, or its table breaks a rule.
+pub fn is_refused(places: [Place; 32], held: bool, parent: u64) -> bool
+    ensures { λ r. ⌜ r ≡ refused (record { places = places; held = held; parent = parent }) ⌝ }
+{
+    if is_parent(held, parent) {
+        return nbr_table::is_broken(places, parent_of(held, parent));
+    }
+    true
+}
+
+// The C form with a change stored, and the change's number; past 31 nothing is stored.
+pub fn stored(table: TableForm, change: Change) -> TableAnswer
+    ensures { λ r. ⌜ r ≡ storedForm table change ⌝ }
+{
+    let at = change.at;
+    if at < PLACES {
+        let place = change.place;
+        let mut changed = table;
+        changed.places[at] = place;
+        return TableAnswer {
+            number: change.number,
+            table: changed,
+        };
+    }
+    TableAnswer {
+        number: change.number,
+        table,
+    }
+}

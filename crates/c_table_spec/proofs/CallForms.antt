@@ -1,0 +1,226 @@
+-- The laws of the exported calls: each way out, as the code meets it (the rulesets at the end). Assumes nothing.
+use Prim.Native.Nat.{ℕ, _*_, _+_, _≤_}
+use native.Mathlib.Omega.{arith}
+use mathlib.Core.Path.{_≡_, refl, sym, ap, ap₂, subst, _∙_}
+use mathlib.Core.Bool.{Bool, true, false, not, _||_}
+use mathlib.Core.List.{List}
+use mathlib.Core.Logic.{_⊎_, inl, inr, ⊎-elim}
+use lib.ListN.{length, replicate, set}
+use lib.Seq.{set-out}
+use lib.Dec.{eqb}
+use Rattle.octets_spec.specs.Choice.{ifOn}
+use Rattle.octets_spec.proofs.ChoiceLaws.{by-test, choices, if-off, if-on}
+use Rattle.nbr_metric_spec.specs.declared.Place.{Place}
+use Rattle.nbr_metric_spec.specs.Metric.{blank}
+use Rattle.nbr_table_spec.specs.Places.{best}
+use Rattle.nbr_table_spec.specs.declared.Answer.{Answer}
+use Rattle.nbr_table_spec.specs.declared.Change.{Change}
+use Rattle.nbr_table_spec.specs.declared.Choice.{Choice}
+use Rattle.nbr_table_spec.specs.declared.Evaluation.{Evaluation}
+use Rattle.nbr_table_spec.specs.declared.Parent.{Parent}
+use Rattle.nbr_table_spec.specs.declared.Parent.the-variants.{None, Held}
+use Rattle.nbr_table_spec.specs.declared.Table.{Table}
+use Rattle.nbr_table_spec.specs.Calls.{advertised, answer, broken, chosen, evaluated, evaluation, forgotten, heldPlace, reported, sameParent, settled, withParent, withPlaces, without}
+use Rattle.nbr_table_spec.specs.Stores.{advertising, forgetting, reporting}
+use Rattle.nbr_table_spec.proofs.PlaceLaws.{clash, length-mapped}
+use Rattle.nbr_table_spec.proofs.CallLaws.{advertised-broken, evaluated-broken, evaluated-done, forgotten-broken, reported-broken}
+use Rattle.nbr_table_spec.proofs.StoreLaws.{advertised-by, forgotten-by, reported-by}
+use Rattle.nbr_stability_spec.proofs.Bound.{same-self}
+use Rattle.nbr_replay_spec.specs.declared.Outcome.{Outcome}
+use Rattle.nbr_replay_spec.specs.Log.{Log, calls, unfitLog}
+use Rattle.nbr_replay_spec.specs.Replay.{replayed}
+use Rattle.nbr_replay_spec.proofs.ReplayLaws.{replay-bound, replay-few, replay-is}
+use Rattle.c_table_spec.specs.declared.TableForm.{TableForm}
+use Rattle.c_table_spec.specs.declared.TableAnswer.{TableAnswer}
+use Rattle.c_table_spec.specs.declared.EvaluationAnswer.{EvaluationAnswer}
+use Rattle.c_table_spec.specs.declared.ReplayAnswer.{ReplayAnswer}
+use Rattle.c_table_spec.specs.Table.{advertisedForm, answerForm, emptyForm, evaluatedForm, evaluationForm, evaluationRefusal, forgottenForm, formOf, idOf, isParent, isTable, markOf, outcomeForm, parentOf, refusal, refused, replayRefusal, replayedForm, reportedForm, storedForm, tableOf}
+use Rattle.c_table_spec.specs.Claims.{formEvaluations, noneRefusedInC}
+use Rattle.c_table_spec.proofs.FormLaws.{id-back, mark-back, tables-are-forms}
+use Rattle.c_table_spec.proofs.Agree.{accepted, none-refused-in-c}
+
+-- ---- the held parent
+pub parent-held : (held : Bool) (id : ℕ) → held ≡ true → Held id ≡ parentOf held id
+unfolding parentOf
+parent-held held id e = rw e
+
+pub parent-none : (held : Bool) (id : ℕ) → held ≡ false → None ≡ parentOf held id
+unfolding parentOf
+parent-none held id e = rw e
+
+module _ (q : Parent) where
+  pub mark-held : (id : ℕ) → q ≡ Held id → true ≡ markOf q
+  unfolding markOf
+  mark-held id e = rw e
+
+  pub mark-none : q ≡ None → false ≡ markOf q
+  unfolding markOf
+  mark-none e = rw e
+
+  pub id-held : (id : ℕ) → q ≡ Held id → id ≡ idOf q
+  unfolding idOf
+  id-held id e = rw e
+
+  pub id-none : q ≡ None → 0 ≡ idOf q
+  unfolding idOf
+  id-none e = rw e
+
+pub is-held : (held : Bool) (id : ℕ) → held ≡ true → true ≡ isParent held id
+unfolding isParent
+is-held held id e = rw e
+
+pub is-none : (held : Bool) (id : ℕ) → held ≡ false → eqb id 0 ≡ isParent held id
+unfolding isParent
+is-none held id e = rw e
+
+-- ---- which C forms are refused
+module _ (form : TableForm) where
+  module _ (x : Bool) (e : x ≡ isTable form) where
+    pub refused-stray : x ≡ false → true ≡ refused form
+    unfolding refused
+    refused-stray u = rw (← e, u)
+
+    pub refused-broken : (y : Bool) (q : Parent) → x ≡ true → q ≡ parentOf (form .held) (form .parent) → y ≡ broken (record { places = form .places; parent = q }) → y ≡ refused form
+    unfolding refused
+    refused-broken y q u f g = rw (← e, u) (g ∙ ap (λ (p : Parent). broken (record { places = form .places; parent = p })) f)
+
+-- nothing is stored past the end
+pub stored-out : (form : TableForm) (c : Change) → length (form .places) ≡ 32 → 32 ≤ c .at → _≡_ {A = TableAnswer} (record { number = c .number; table = form }) (storedForm form c)
+stored-out form c l h =
+    ap (λ (ps : List Place). record { number = c .number; table = record { places = ps; held = form .held; parent = form .parent } }) (sym (set-out (form .places) (c .at) (c .place) (omega arith)))
+
+-- the table without neighbours
+pub empty-form : (b : Place) → b ≡ blank → _≡_ {A = TableForm} (record { places = replicate 32 b; held = false; parent = 0 }) emptyForm
+unfolding markOf idOf
+empty-form b e = ap (λ (z : Place). record { places = replicate 32 z; held = false; parent = 0 }) e
+
+-- ---- the calls
+module _ (form : TableForm) (x : Bool) (e : x ≡ refused form) where
+  -- a refused C form: the call gives it back
+  module _ (u : x ≡ true) where
+    given-back : (a : Answer) → (broken (tableOf form) ≡ true → a ≡ answer 8 (tableOf form)) → refusal form ≡ ifOn (isTable form) (answerForm a) (refusal form)
+    unfolding refused
+    given-back a h =
+        by-test (isTable form)
+        (λ t.
+        let b : broken (tableOf form) ≡ true = rw t at (sym e ∙ u) in
+        if-on (answerForm a) (refusal form) (isTable form) t (ap refusal (sym (tables-are-forms form t)) ∙ ap answerForm (sym (h b))))
+        (λ t. if-off (answerForm a) (refusal form) (isTable form) t refl)
+
+    pub advertise-refused : (id rank : ℕ) → refusal form ≡ advertisedForm form id rank
+    unfolding advertisedForm
+    advertise-refused id rank = given-back (advertised (tableOf form) id rank) (λ b. sym (advertised-broken (tableOf form) id true (sym b) refl rank))
+
+    pub report-refused : (id attempts : ℕ) (acked : Bool) → refusal form ≡ reportedForm form id attempts acked
+    unfolding reportedForm
+    report-refused id attempts acked = given-back (reported (tableOf form) id attempts acked) (λ b. sym (reported-broken (tableOf form) id true (sym b) refl attempts acked))
+
+    pub forget-refused : (id : ℕ) → refusal form ≡ forgottenForm form id
+    unfolding forgottenForm
+    forget-refused id = given-back (forgotten (tableOf form) id) (λ b. sym (forgotten-broken (tableOf form) id true (sym b) refl))
+
+    pub evaluate-refused : evaluationRefusal form ≡ evaluatedForm form
+    unfolding evaluatedForm refused
+    evaluate-refused =
+        by-test (isTable form)
+        (λ t.
+        let b : broken (tableOf form) ≡ true = rw t at (sym e ∙ u) in
+        let n : not (sameParent (tableOf form .parent) (tableOf form .parent)) ≡ false = rw (same-self (tableOf form .parent)) in
+        if-on (evaluationForm (tableOf form) (evaluated (tableOf form))) (evaluationRefusal form) (isTable form) t
+        (ap evaluationRefusal (sym (tables-are-forms form t))
+        ∙ ap (λ (z : Bool). record { number = 8; changed = z; rank = 65535; held = markOf (tableOf form .parent); parent = idOf (tableOf form .parent); table = formOf (tableOf form) }) (sym n)
+        ∙ ap (evaluationForm (tableOf form)) (evaluated-broken (tableOf form) true (sym b) refl)))
+        (λ t. if-off (evaluationForm (tableOf form) (evaluated (tableOf form))) (evaluationRefusal form) (isTable form) t refl)
+
+  -- one that is not refused
+  module _ (u : x ≡ false) where
+    is : isTable form ≡ true
+    is = accepted form (sym e ∙ u) .0
+
+    fine : broken (tableOf form) ≡ false
+    fine = accepted form (sym e ∙ u) .1
+
+    -- the held parent is given back as it was
+    same-parent : (number : ℕ) (ps : List Place) → _≡_ {A = TableAnswer} (record { number = number; table = record { places = ps; held = form .held; parent = form .parent } }) (answerForm (answer number (withPlaces (tableOf form) ps)))
+    same-parent number ps = ap (λ (f : TableForm). record { number = number; table = record { places = ps; held = f .held; parent = f .parent } }) (sym (tables-are-forms form is))
+
+    module _ (l : length (form .places) ≡ 32) (id : ℕ) (c : Change) where
+      module _ (r : TableAnswer) (s : r ≡ storedForm form c) where
+        by-answer : (a : Answer) → answer (c .number) (withPlaces (tableOf form) (set (form .places) (c .at) (c .place))) ≡ a → r ≡ ifOn (isTable form) (answerForm a) (refusal form)
+        by-answer a h = if-on (answerForm a) (refusal form) (isTable form) is (s ∙ same-parent (c .number) (set (form .places) (c .at) (c .place)) ∙ ap answerForm h)
+
+        pub advertise-done : (rank : ℕ) → c ≡ advertising (form .places) id rank → r ≡ advertisedForm form id rank
+        unfolding advertisedForm
+        advertise-done rank f = by-answer (advertised (tableOf form) id rank) (advertised-by (tableOf form) fine l id c _ rank f refl)
+
+        pub report-done : (attempts : ℕ) (acked : Bool) → c ≡ reporting (form .places) id attempts acked → r ≡ reportedForm form id attempts acked
+        unfolding reportedForm
+        report-done attempts acked f = by-answer (reported (tableOf form) id attempts acked) (reported-by (tableOf form) fine l id c _ attempts acked f refl)
+
+      pub forget-done : (q p : Parent) (held : Bool) (left : ℕ) (s : TableAnswer) → c ≡ forgetting (form .places) id → s ≡ storedForm form c → q ≡ parentOf (form .held) (form .parent) → p ≡ without id q → held ≡ markOf p → left ≡ idOf p
+          → _≡_ {A = TableAnswer} (record { number = s .number; table = record { places = s .table .places; held = held; parent = left } }) (forgottenForm form id)
+      unfolding forgottenForm
+      forget-done q p held left s f k g h m n =
+          let w : p ≡ without id (tableOf form .parent) = h ∙ ap (without id) g in
+          let y = forgotten-by (tableOf form) fine l id c _ (without id (tableOf form .parent)) _ f refl refl refl in
+          if-on (answerForm (forgotten (tableOf form) id)) (refusal form) (isTable form) is
+          (ap₂ (λ (a : Bool) (b : ℕ). record { number = s .number; table = record { places = s .table .places; held = a; parent = b } }) (m ∙ ap markOf w) (n ∙ ap idOf w)
+          ∙ ap (λ (z : TableAnswer). record { number = z .number; table = record { places = z .table .places; held = markOf (without id (tableOf form .parent)); parent = idOf (without id (tableOf form .parent)) } }) k
+          ∙ ap answerForm y)
+
+    pub evaluate-done : (q : Parent) (c : Choice) (same held : Bool) (left : ℕ) → q ≡ parentOf (form .held) (form .parent) → c ≡ chosen q (heldPlace q (form .places)) (best (form .places)) → same ≡ sameParent q (c .parent) → held ≡ markOf (c .parent) → left ≡ idOf (c .parent)
+        → _≡_ {A = EvaluationAnswer} (record { number = 0; changed = not same; rank = c .rank; held = held; parent = left; table = record { places = form .places; held = held; parent = left } }) (evaluatedForm form)
+    unfolding evaluatedForm
+    evaluate-done q c same held left g f s m n =
+        let f₂ : c ≡ chosen (tableOf form .parent) (heldPlace (tableOf form .parent) (form .places)) (best (form .places)) = f ∙ ap (λ (z : Parent). chosen z (heldPlace z (form .places)) (best (form .places))) g in
+        let s₂ : same ≡ sameParent (tableOf form .parent) (c .parent) = s ∙ ap (λ (z : Parent). sameParent z (c .parent)) g in
+        let y = evaluated-done (tableOf form) (broken (tableOf form)) refl c (withParent (tableOf form) (c .parent)) fine f₂ refl in
+        if-on (evaluationForm (tableOf form) (evaluated (tableOf form))) (evaluationRefusal form) (isTable form) is
+        ((λ i. record { number = 0; changed = not (s₂ i); rank = c .rank; held = m i; parent = n i; table = record { places = form .places; held = m i; parent = n i } }) ∙ ap (evaluationForm (tableOf form)) y)
+
+-- ---- the replay
+module _ (form : TableForm) (l : Log) where
+  module _ (x : Bool) (e : x ≡ isTable form) where
+    pub replay-stray : x ≡ false → replayRefusal form ≡ replayedForm form l
+    unfolding replayedForm
+    replay-stray u = let t : isTable form ≡ false = sym e ∙ u in search choices
+
+    pub replay-done : (q : Parent) (o : Outcome) (held : Bool) (left : ℕ) → x ≡ true → q ≡ parentOf (form .held) (form .parent) → o ≡ replayed (record { places = form .places; parent = q }) l → held ≡ markOf (o .table .parent) → left ≡ idOf (o .table .parent)
+        → _≡_ {A = ReplayAnswer} (record { number = o .number; applies = o .applies; evaluations = o .evaluations; changes = o .changes; rises = o .rises; first = o .first; last = o .last; table = record { places = o .table .places; held = held; parent = left } }) (replayedForm form l)
+    unfolding replayedForm
+    replay-done q o held left u g f m n =
+        let t : isTable form ≡ true = sym e ∙ u in
+        let y : o ≡ replayed (tableOf form) l = f ∙ ap (λ (z : Parent). replayed (record { places = form .places; parent = z }) l) g in
+        if-on (outcomeForm (replayed (tableOf form) l)) (replayRefusal form) (isTable form) t
+        ((λ i. record { number = o .number; applies = o .applies; evaluations = o .evaluations; changes = o .changes; rises = o .rises; first = o .first; last = o .last; table = record { places = o .table .places; held = m i; parent = n i } }) ∙ ap outcomeForm y)
+
+  -- what the theorems say of an answer
+  module _ (r : ReplayAnswer) (e : r ≡ replayedForm form l) where
+    is-replay : (r ≡ replayRefusal form) ⊎ ((isTable form ≡ true) × (r ≡ outcomeForm (replayed (tableOf form) l)))
+    unfolding replayedForm ifOn
+    is-replay = by-test (isTable form) (λ t. inr (t, rw t at e)) (λ t. inl (rw t at e))
+
+    says : (P : ReplayAnswer → Type 0) → P (replayRefusal form) → (isTable form ≡ true → P (outcomeForm (replayed (tableOf form) l))) → P r
+    says P a b = ⊎-elim (λ f. subst P (sym f) a) (λ f. subst P (sym (f .1)) (b (f .0))) is-replay
+
+    pub replay-form-says : (r ≡ replayedForm form l) × ((r .applies ≡ true → 641 * r .changes + r .last ≤ r .first + r .rises) × ((r .applies ≡ true → r .rises ≡ 0 → r .changes ≤ 101) × (r .number ≡ 0 → noneRefusedInC (formEvaluations form (calls l)) ≡ true)))
+    unfolding refused
+    replay-form-says = (
+      e,
+      (
+        says (λ z. z .applies ≡ true → 641 * z .changes + z .last ≤ z .first + z .rises) (λ h. clash false h refl) (λ t. replay-bound (tableOf form) l (replayed (tableOf form) l) refl),
+        (
+          says (λ z. z .applies ≡ true → z .rises ≡ 0 → z .changes ≤ 101) (λ h. clash false h refl) (λ t. replay-few (tableOf form) l (replayed (tableOf form) l) refl),
+          says (λ z. z .number ≡ 0 → noneRefusedInC (formEvaluations form (calls l)) ≡ true) (λ h. absurd (omega arith))
+              (λ t h.
+              ⊎-elim (λ f. absurd (let z : replayed (tableOf form) l .number ≡ 8 = ap (λ (o : Outcome). o .number) f in omega arith)) (λ f. none-refused-in-c form (calls l) (rw (t, f .0)))
+              (replay-is (tableOf form) l (replayed (tableOf form) l) refl)),
+        ),
+      ),
+    )
+
+pub ruleset formWays = (parent-held, parent-none, mark-held, mark-none, id-held, id-none, is-held, is-none, refused-stray, refused-broken, length-mapped, stored-out)
+
+pub ruleset replayWays = (replay-stray, replay-done)
+
+pub ruleset callWays = (length-mapped, empty-form, advertise-refused, report-refused, forget-refused, evaluate-refused, advertise-done, report-done, forget-done, evaluate-done)

@@ -1,0 +1,4 @@
+pub mod FormLaws
+pub mod Agree
+pub mod CallForms
+pub mod Witness

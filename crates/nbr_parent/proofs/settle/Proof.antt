@@ -1,0 +1,54 @@
+-- `nbr_parent::settle` meets its contract. Assumes nothing.
+use Rattle.nbr_table_spec.proofs.OfferLaws.{settleWays}
+use borrow.Author.Needs.{needs}
+use Rattle.nbr_parent.proofs.settle.Statement.{statement}
+use Rattle.nbr_parent.proofs.settle.Tie as tie
+
+best-offer-requires : tie.Need-best-offer-requires
+best-offer-requires c κs = search needs
+
+place-of-requires : tie.Need-place-of-requires
+place-of-requires c κs = search needs
+
+offer-requires : tie.Need-offer-requires
+offer-requires c κs = search needs
+
+add-if3 : tie.Need-add-if3
+add-if3 c = search needs
+
+take-requires : tie.Need-take-requires
+take-requires c κs = search needs
+
+returns : tie.Need-returns
+returns c = search (needs, settleWays)
+
+cast-t10 : tie.Need-cast-t10
+cast-t10 c = search needs
+
+returns-2 : tie.Need-returns-2
+returns-2 c = search (needs, settleWays)
+
+take-requires-2 : tie.Need-take-requires-2
+take-requires-2 c κs = search needs
+
+returns-3 : tie.Need-returns-3
+returns-3 c = search (needs, settleWays)
+
+returns-4 : tie.Need-returns-4
+returns-4 c = search (needs, settleWays)
+
+pub settle-spec : {M : Type 1} → statement M
+settle-spec =
+    tie.close
+    (tie.spec
+    best-offer-requires
+    place-of-requires
+    offer-requires
+    add-if3
+    take-requires
+    returns
+    cast-t10
+    returns-2
+    take-requires-2
+    returns-3
+    returns-4)

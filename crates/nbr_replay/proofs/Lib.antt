@@ -1,4 +1,0 @@
-pub mod LogLaws
-pub mod VisitLaws
-pub mod Snoc
-pub mod ReplayLaws

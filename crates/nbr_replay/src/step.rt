@@ -1,0 +1,85 @@
+// One row of a log on a table that breaks no rule: what the call of that row stores. Every call keeps such a table so, and
+// therefore none of them is tested again.
+use crate::visit::seen;
+use nbr_calls::advertise::advertising;
+use nbr_calls::forget::forgetting;
+use nbr_calls::forget::without;
+use nbr_calls::report::reporting;
+use nbr_metric_spec::Place;
+use nbr_parent::settle;
+use nbr_replay_spec::ADVERTISE;
+use nbr_replay_spec::FORGET;
+use nbr_replay_spec::REPORT;
+use nbr_replay_spec::Step;
+use nbr_replay_spec::Visit;
+use nbr_table_spec::PLACES;
+use nbr_table_spec::Parent;
+ghost use mathlib.Core.Path.{_≡_};
+ghost use mathlib.Core.Bool.{false};
+ghost use Rattle.nbr_table_spec.specs.Calls.{broken};
+ghost use Rattle.nbr_replay_spec.specs.Log.{call};
+ghost use Rattle.nbr_replay_spec.specs.Tally.{IsStep, noVisit};
+
+// What a row shows that is no evaluation.
+fn unseen() -> Visit
+    ensures { λ r. ⌜ r ≡ noVisit ⌝ }
+{
+    Visit {
+        change: 0,
+        entry: 0,
+        exit: 0,
+        eligible: false,
+    }
+}
+
+// The step of a row; specs/Log.antt says how a row is read.
+pub(crate) fn step(
+    places: [Place; 32],
+    parent: Parent,
+    kind: u8,
+    id: u64,
+    value: u16,
+    flag: u8,
+) -> Step
+    requires { ⌜ broken (record { places = places; parent = parent }) ≡ false ⌝ }
+    ensures { λ r. ⌜ IsStep (record { places = places; parent = parent }) kind (call kind id value flag) r ⌝ }
+{
+    if kind == ADVERTISE {
+        let change = advertising(places, id, value);
+        let place = change.place;
+        return Step {
+            at: change.at,
+            place,
+            parent,
+            visit: unseen(),
+        };
+    }
+    if kind == REPORT {
+        let change = reporting(places, id, value as u32, flag == 1);
+        let place = change.place;
+        return Step {
+            at: change.at,
+            place,
+            parent,
+            visit: unseen(),
+        };
+    }
+    if kind == FORGET {
+        let change = forgetting(places, id);
+        let place = change.place;
+        return Step {
+            at: change.at,
+            place,
+            parent: without(parent, id),
+            visit: unseen(),
+        };
+    }
+    let choice = settle(places, parent);
+    let chosen = choice.parent;
+    Step {
+        at: PLACES,
+        place: nbr_metric_spec::blank(),
+        parent: chosen,
+        visit: seen(places, parent, chosen),
+    }
+}

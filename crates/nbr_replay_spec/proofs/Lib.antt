@@ -1,0 +1,5 @@
+pub mod LogLaws
+pub mod VisitLaws
+pub mod Snoc
+pub mod StepLaws
+pub mod ReplayLaws

@@ -1,0 +1,126 @@
+-- The laws of one row: each kind of call, as the code meets it (`stepWays`), and what is counted (`countWays`). Assumes nothing.
+use Prim.Native.Nat.{ℕ, _+_, _-_, _<_, _≤_, _^_}
+use native.Mathlib.Omega.{arith}
+use mathlib.Core.Path.{_≡_, refl, sym, ap, subst, _∙_}
+use mathlib.Core.Bool.{Bool, true, false, _&&_}
+use mathlib.Core.List.{List}
+use lib.ListN.{length, set}
+use lib.Dec.{eqb}
+use borrow.Author.Tests.{ne-eqb}
+use Rattle.octets_spec.specs.Choice.{ifEq, ifLt, ifOn}
+use Rattle.octets_spec.proofs.ChoiceLaws.{by-lt, choices}
+use Rattle.nbr_metric_spec.specs.declared.Place.{Place}
+use Rattle.nbr_metric_spec.specs.Metric.{blank}
+use Rattle.nbr_table_spec.specs.Places.{best}
+use Rattle.nbr_table_spec.specs.declared.Answer.{Answer}
+use Rattle.nbr_table_spec.specs.declared.Change.{Change}
+use Rattle.nbr_table_spec.specs.declared.Choice.{Choice}
+use Rattle.nbr_table_spec.specs.declared.Parent.{Parent}
+use Rattle.nbr_table_spec.specs.declared.Table.{Table}
+use Rattle.nbr_table_spec.specs.Calls.{broken, chosen, evaluated, heldPlace, withParent, without}
+use Rattle.nbr_table_spec.specs.Stores.{advertising, forgetting, reporting}
+use Rattle.nbr_table_spec.proofs.CallLaws.{place-out}
+use Rattle.nbr_table_spec.proofs.StoreLaws.{advertised-by, forgotten-by, reported-by}
+use Rattle.nbr_stability_spec.specs.Stability.{Call, after}
+use Rattle.nbr_stability_spec.specs.Stability.Call.{Advertise, Report, Forget, Evaluate}
+use Rattle.nbr_replay_spec.specs.Log.{call}
+use Rattle.nbr_replay_spec.specs.declared.Counts.{Counts}
+use Rattle.nbr_replay_spec.specs.declared.Step.{Step}
+use Rattle.nbr_replay_spec.specs.declared.Visit.{Visit}
+use Rattle.nbr_replay_spec.specs.Visit.{visited}
+use Rattle.nbr_replay_spec.specs.Tally.{IsStep, OneMore, counted, noVisit, noted, stepped}
+
+-- ---- the kinds of calls
+module _ (ps : List Place) (q : Parent) (kind n value flag : ℕ) (b : broken (record { places = ps; parent = q }) ≡ false) (l : length ps ≡ 32) where
+  abbrev t : Table
+  t = record { places = ps; parent = q }
+
+  -- a row that is no evaluation
+  quiet : (c : Call) (s : Step) → kind < 3 → call kind n value flag ≡ c → stepped t s ≡ after t c → s .visit ≡ noVisit → IsStep t kind (call kind n value flag) s
+  quiet c s k e h v =
+      record {
+        leaves = h ∙ ap (after t) (sym e);
+        shows = λ g. absurd (omega arith);
+        change = subst (λ (z : Visit). z .change ≤ 1) (sym v) (omega arith);
+        entry = subst (λ (z : Visit). z .entry < 2 ^ 30) (sym v) (omega arith);
+      }
+
+  module _ (c : Change) (v : Visit) (w : v ≡ noVisit) where
+    is-advertise : kind ≡ 0 → call kind n value flag ≡ Advertise n value
+    unfolding call ifEq
+    is-advertise k = rw k
+
+    pub step-advertise : kind ≡ 0 → c ≡ advertising ps n value → IsStep t kind (call kind n value flag) (record { at = c .at; place = c .place; parent = q; visit = v })
+    unfolding after
+    step-advertise k e = quiet (Advertise n value) _ (omega arith) (is-advertise k) (ap (λ (a : Answer). a .table) (advertised-by t b l n c _ value e refl)) w
+
+    module _ (o : kind ≡ 0 → ⊥) where
+      is-report : kind ≡ 1 → call kind n value flag ≡ Report n value (eqb flag 1)
+      unfolding call ifEq
+      is-report k = rw k
+
+      pub step-report : (k : ℕ) → kind ≡ 1 → k ≡ value → c ≡ reporting ps n k (eqb flag 1) → IsStep t kind (call kind n value flag) (record { at = c .at; place = c .place; parent = q; visit = v })
+      unfolding after
+      step-report k d f e =
+          quiet (Report n value (eqb flag 1)) _ (omega arith) (is-report d)
+          (ap (λ (a : Answer). a .table) (reported-by t b l n c _ value (eqb flag 1) (e ∙ ap (λ (z : ℕ). reporting ps n z (eqb flag 1)) f) refl)) w
+
+      module _ (p : kind ≡ 1 → ⊥) where
+        is-forget : kind ≡ 2 → call kind n value flag ≡ Forget n
+        unfolding call ifEq
+        is-forget k = rw k
+
+        pub step-forget : (r : Parent) → kind ≡ 2 → c ≡ forgetting ps n → r ≡ without n q → IsStep t kind (call kind n value flag) (record { at = c .at; place = c .place; parent = r; visit = v })
+        unfolding after
+        step-forget r k e f = quiet (Forget n) _ (omega arith) (is-forget k) (ap (λ (a : Answer). a .table) (forgotten-by t b l n c _ r _ e f refl refl)) w
+
+  module _ (o : kind ≡ 0 → ⊥) (p : kind ≡ 1 → ⊥) (d : kind ≡ 2 → ⊥) where
+    is-evaluate : call kind n value flag ≡ Evaluate
+    unfolding call ifEq
+    is-evaluate = rw (ne-eqb kind 0 o, ne-eqb kind 1 p, ne-eqb kind 2 d)
+
+    -- what an evaluation leaves
+    evaluated-leaves : (c : Choice) → c ≡ chosen q (heldPlace q ps) (best ps) → record { places = ps; parent = c .parent } ≡ after t Evaluate
+    unfolding after evaluated ifOn
+    evaluated-leaves c e = rw (after, b) (ap (λ (z : Choice). withParent t (z .parent)) e)
+
+    pub step-evaluate : (c : Choice) (z : Place) (v : Visit) → c ≡ chosen q (heldPlace q ps) (best ps) → z ≡ blank → v ≡ visited (record { places = ps; parent = q }) (record { places = ps; parent = c .parent }) → v .change ≤ 1 → v .entry < 2 ^ 30
+        → IsStep t kind (call kind n value flag) (record { at = 32; place = z; parent = c .parent; visit = v })
+    step-evaluate c z v e a w f g =
+        let u = evaluated-leaves c e in
+        record {
+          leaves = sym (place-out (record { places = ps; parent = c .parent }) 32 z l (omega arith)) ∙ u ∙ ap (after t) (sym is-evaluate);
+          shows = λ m. w ∙ ap (visited t) (u ∙ ap (after t) (sym is-evaluate));
+          change = f;
+          entry = g;
+        }
+
+-- ---- what is counted
+pub rises-later : (n r d c l : ℕ) → (n ≡ 0 → ⊥) → d ≡ c - l → r + d ≡ ifEq n 0 0 (r + (c - l))
+rises-later n r d c l h e = let k : r + d ≡ r + (c - l) = omega arith in search choices
+
+pub eligible-more : (a x : Bool) → a ≡ true → x ≡ (a && x)
+eligible-more a x u = rw u
+
+pub eligible-less : (a x : Bool) → a ≡ false → false ≡ (a && x)
+eligible-less a x u = rw u
+
+module _ (s : Counts) (v : Visit) (kind : ℕ) where
+  pub counted-quiet : kind < 3 → s ≡ counted kind s v
+  unfolding counted
+  counted-quiet h = search choices
+
+  pub counted-noted : (r f : ℕ) (x : Bool) → 3 ≤ kind → r ≡ ifEq (s .evaluations) 0 0 (s .rises + (v .entry - s .last)) → f ≡ ifEq (s .evaluations) 0 (v .entry) (s .first) → x ≡ (s .applies && v .eligible)
+      → _≡_ {A = Counts} (record { evaluations = s .evaluations + 1; changes = s .changes + v .change; rises = r; first = f; last = v .exit; applies = x }) (counted kind s v)
+  unfolding counted noted
+  counted-noted r f x h e₁ e₂ e₃ =
+      let z : _≡_ {A = Counts} (record { evaluations = s .evaluations + 1; changes = s .changes + v .change; rises = r; first = f; last = v .exit; applies = x }) (noted s v) =
+      λ i. record { evaluations = s .evaluations + 1; changes = s .changes + v .change; rises = e₁ i; first = e₂ i; last = v .exit; applies = e₃ i } in
+      search choices
+
+pub same-counts : (s : Counts) → OneMore s s
+same-counts s = record { evaluations = omega arith; changes = omega arith; rises = omega arith }
+
+pub ruleset stepWays = (step-advertise, step-report, step-forget, step-evaluate)
+
+pub ruleset countWays = (rises-later, eligible-more, eligible-less, counted-quiet, counted-noted, same-counts, choices)

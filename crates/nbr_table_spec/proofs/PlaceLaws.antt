@@ -1,0 +1,236 @@
+-- The laws of places: each way out of a function over places, as the code meets it (the rulesets at the end), and how what
+-- is found by number is what the definitions speak of. Assumes nothing.
+use Prim.Native.Nat.{ℕ, zero, suc, _+_, _<_, _≤_}
+use native.Mathlib.Numerals.{add-one}
+use native.Mathlib.Omega.{arith}
+use mathlib.Core.Path.{_≡_, refl, sym, ap, subst, _∙_}
+use mathlib.Core.Bool.{Bool, true, false, _&&_, _||_}
+use mathlib.Core.List.{List, [], _∷_, map}
+use lib.ListN.{length, getD, drop, set, length-map, length-drop, drop-of-length-le}
+use lib.Seq.{drop-cons}
+use lib.Dec.{ltb, eqb}
+use borrow.Author.Tests.{lt-ltb, le-ltb, ltb-false}
+use Rattle.octets_spec.specs.Choice.{ifOn}
+use Rattle.octets_spec.proofs.ChoiceLaws.{by-lt, choices}
+use Rattle.nbr_metric_spec.specs.declared.Place.{Place}
+use Rattle.nbr_metric_spec.specs.Metric.{blank, eligible, pathCost}
+use Rattle.nbr_table_spec.specs.Places.{better, bestOf, best, changeFirst, firstOf, free, known, named, nearer, nonzero, some, twice, unfit}
+use Rattle.nbr_table_spec.specs.Search.{first, firstFrom}
+
+-- an array of structs that is a field has its length
+pub length-mapped : {X Y : Type 0} (f : X → Y) (l : List X) (n : ℕ) → length (map f l) ≡ n → length l ≡ n
+length-mapped f l n e = sym (length-map l f) ∙ e
+
+-- ---- one place
+module _ (p : Place) where
+  pub free-not : p .used ≡ true → false ≡ free p
+  unfolding free
+  free-not u = rw u
+
+  pub free-is : p .used ≡ false → true ≡ free p
+  unfolding free
+  free-is u = rw u
+
+  pub named-used : (n : ℕ) → p .used ≡ true → eqb (p .id) n ≡ named n p
+  unfolding named
+  named-used n u = rw u
+
+  pub named-free : (n : ℕ) → p .used ≡ false → false ≡ named n p
+  unfolding named
+  named-free n u = rw u
+
+  pub nonzero-id : 0 < p .id → true ≡ nonzero p
+  unfolding nonzero
+  nonzero-id h = simp (lt-ltb 0 (p .id) h)
+
+  pub nonzero-rank : p .id ≤ 0 → 0 < p .rank → true ≡ nonzero p
+  unfolding nonzero
+  nonzero-rank i h = simp (le-ltb 0 (p .id) i, lt-ltb 0 (p .rank) h)
+
+  pub nonzero-attempts : p .id ≤ 0 → p .rank ≤ 0 → 0 < p .attempts → true ≡ nonzero p
+  unfolding nonzero
+  nonzero-attempts i r h = simp (le-ltb 0 (p .id) i, le-ltb 0 (p .rank) r, lt-ltb 0 (p .attempts) h)
+
+  pub nonzero-acked : p .id ≤ 0 → p .rank ≤ 0 → p .attempts ≤ 0 → ltb 0 (p .acked) ≡ nonzero p
+  unfolding nonzero
+  nonzero-acked i r t = simp (le-ltb 0 (p .id) i, le-ltb 0 (p .rank) r, le-ltb 0 (p .attempts) t)
+
+  pub unfit-attempts : 255 < p .attempts → true ≡ unfit p
+  unfolding unfit
+  unfit-attempts h = simp (lt-ltb 255 (p .attempts) h)
+
+  pub unfit-acked : p .attempts ≤ 255 → p .attempts < p .acked → true ≡ unfit p
+  unfolding unfit
+  unfit-acked h k = simp (le-ltb 255 (p .attempts) h, lt-ltb (p .attempts) (p .acked) k)
+
+  module _ (h : p .attempts ≤ 255) (k : p .acked ≤ p .attempts) where
+    pub unfit-used : p .used ≡ true → false ≡ unfit p
+    unfolding unfit free
+    unfit-used u = simp (le-ltb 255 (p .attempts) h, le-ltb (p .attempts) (p .acked) k, u)
+
+    pub unfit-free : (x : Bool) → p .used ≡ false → x ≡ nonzero p → x ≡ unfit p
+    unfolding unfit free
+    unfit-free x u f = simp (le-ltb 255 (p .attempts) h, le-ltb (p .attempts) (p .acked) k, u, f)
+
+-- ---- walking the places: what is left gives what the whole gives
+module _ (f : Place → Bool) (ps : List Place) (i : ℕ) (w x : Bool) where
+  pub some-next : i < length ps → some f (drop i ps) ≡ w → x ≡ f (getD ps i blank) → x ≡ false → some f (drop (i + 1) ps) ≡ w
+  unfolding some
+  some-next l h e u = rw add-one (rw (drop-cons ps i blank l, ← e, u) at h)
+
+  pub some-found : i < length ps → some f (drop i ps) ≡ w → x ≡ f (getD ps i blank) → x ≡ true → true ≡ w
+  unfolding some
+  some-found l h e u = rw (drop-cons ps i blank l, ← e, u) at h
+
+pub some-end : (f : Place → Bool) (ps : List Place) (i n : ℕ) (w : Bool) → length ps ≡ n → n ≤ i → some f (drop i ps) ≡ w → false ≡ w
+unfolding some
+some-end f ps i n w e l h = let k : length ps ≤ i = omega arith in rw (drop-of-length-le ps k) at h
+
+module _ (f : Place → Bool) (ps : List Place) (i w : ℕ) (x : Bool) where
+  pub first-next : i < length ps → firstFrom f i ps ≡ w → x ≡ f (getD ps i blank) → x ≡ false → firstFrom f (i + 1) ps ≡ w
+  unfolding first firstFrom
+  first-next l h e u = rw add-one (let k : i + suc (first f (drop (suc i) ps)) ≡ w = rw (drop-cons ps i blank l, ← e, u) at h in omega arith)
+
+  pub first-found : i < length ps → firstFrom f i ps ≡ w → x ≡ f (getD ps i blank) → x ≡ true → i ≡ w
+  unfolding first firstFrom
+  first-found l h e u = let k : i + 0 ≡ w = rw (drop-cons ps i blank l, ← e, u) at h in omega arith
+
+pub first-end : (f : Place → Bool) (ps : List Place) (i n w : ℕ) → length ps ≡ n → n ≤ i → firstFrom f i ps ≡ w → i ≡ w
+unfolding first firstFrom
+first-end f ps i n w e l h = let m : length ps ≤ i = omega arith in let g : i + 0 ≡ w = rw (drop-of-length-le ps m) at h in omega arith
+
+module _ (ps : List Place) (i : ℕ) (w x : Bool) where
+  pub twice-next : i < length ps → twice (drop i ps) ≡ w → x ≡ (getD ps i blank .used && known (getD ps i blank .id) (drop (i + 1) ps)) → x ≡ false → twice (drop (i + 1) ps) ≡ w
+  unfolding twice
+  twice-next l h e u = let g = rw add-one at e in rw add-one (rw (drop-cons ps i blank l, ← g, u) at h)
+
+  pub twice-found : i < length ps → twice (drop i ps) ≡ w → x ≡ (getD ps i blank .used && known (getD ps i blank .id) (drop (i + 1) ps)) → x ≡ true → true ≡ w
+  unfolding twice
+  twice-found l h e u = let g = rw add-one at e in rw (drop-cons ps i blank l, ← g, u) at h
+
+pub twice-end : (ps : List Place) (i n : ℕ) (w : Bool) → length ps ≡ n → n ≤ i → twice (drop i ps) ≡ w → false ≡ w
+unfolding twice
+twice-end ps i n w e l h = let k : length ps ≤ i = omega arith in rw (drop-of-length-le ps k) at h
+
+-- ---- the best place
+module _ (b p : Place) (c d : ℕ) (e : c ≡ pathCost p) (f : d ≡ pathCost b) where
+  pub nearer-cost : c < d → p ≡ nearer b p
+  unfolding nearer
+  nearer-cost h = let k : pathCost p < pathCost b = omega arith in search choices
+
+  pub nearer-held : d ≤ c → d < c → b ≡ nearer b p
+  unfolding nearer
+  nearer-held g h = let k : pathCost b < pathCost p = omega arith in let l : pathCost b ≤ pathCost p = omega arith in search choices
+
+  module _ (g : d ≤ c) (h : c ≤ d) where
+    pub nearer-id : p .id < b .id → p ≡ nearer b p
+    unfolding nearer
+    nearer-id i = let k : pathCost b ≤ pathCost p = omega arith in let l : pathCost p ≤ pathCost b = omega arith in search choices
+
+    pub nearer-tie : b .id ≤ p .id → b ≡ nearer b p
+    unfolding nearer
+    nearer-tie i = let k : pathCost b ≤ pathCost p = omega arith in let l : pathCost p ≤ pathCost b = omega arith in search choices
+
+module _ (b p : Place) (x y : Bool) where
+  pub better-both : (q : Place) → x ≡ eligible p → x ≡ true → y ≡ eligible b → y ≡ true → q ≡ nearer b p → q ≡ better b p
+  unfolding better ifOn
+  better-both q e u f v h = simp (← e, u, ← f, v) h
+
+  pub better-new : x ≡ eligible p → x ≡ true → y ≡ eligible b → y ≡ false → p ≡ better b p
+  unfolding better ifOn
+  better-new e u f v = simp (← e, u, ← f, v)
+
+  pub better-old : x ≡ eligible p → x ≡ false → b ≡ better b p
+  unfolding better ifOn
+  better-old e u = simp (← e, u)
+
+-- a disjunction that fails, fails in each part
+pub neither : (a b : Bool) → a || b ≡ false → (a ≡ false) × (b ≡ false)
+neither true b e = (e, cc)
+neither false b e = (refl, e)
+
+-- case split that keeps the equation
+pub split : {A : Type 0} (a : Bool) → (a ≡ true → A) → (a ≡ false → A) → A
+split true f g = f refl
+split false f g = g refl
+
+-- a test does not both hold and fail
+pub clash : {A : Type 0} (a : Bool) → a ≡ true → a ≡ false → A
+clash a e f = absurd (let z : _≡_ {A = ℕ} 0 1 = cc in omega arith)
+
+-- ---- what is found by number is what the definitions speak of
+module _ (f : Place → Bool) where
+  pub found : (ps : List Place) → first f ps < length ps → some f ps ≡ true
+  unfolding first some
+  found [] h = absurd (omega arith)
+  found (p ∷ ps) h = split (f p) (λ e. rw e) (λ e. rw e (found ps (let k : suc (first f ps) < suc (length ps) = rw e at h in omega arith)))
+
+  pub missing : (ps : List Place) → length ps ≤ first f ps → some f ps ≡ false
+  unfolding first some
+  missing [] h = refl
+  missing (p ∷ ps) h =
+      split (f p) (λ e. let k : suc (length ps) ≤ 0 = rw e at h in absurd (omega arith))
+      (λ e. rw e (missing ps (let k : suc (length ps) ≤ suc (first f ps) = rw e at h in omega arith)))
+
+  pub first-at : (ps : List Place) → getD ps (first f ps) blank ≡ firstOf f ps
+  unfolding first firstOf
+  first-at [] = refl
+  first-at (p ∷ ps) = split (f p) (λ e. rw e) (λ e. rw e (first-at ps))
+
+  pub set-first : (g : Place → Place) (ps : List Place) → set ps (first f ps) (g (getD ps (first f ps) blank)) ≡ changeFirst f g ps
+  unfolding first changeFirst
+  set-first g [] = refl
+  set-first g (p ∷ ps) = split (f p) (λ e. rw e) (λ e. rw e (ap (λ (l : List Place). p ∷ l) (set-first g ps)))
+
+pub from-0 : (f : Place → Bool) (ps : List Place) → firstFrom f 0 ps ≡ first f ps
+unfolding firstFrom
+from-0 f ps = omega arith
+
+-- the same, as the code has it: the number i that the search answered, in an array of n places
+module _ (f : Place → Bool) (ps : List Place) (i n : ℕ) (e₀ : i ≡ firstFrom f 0 ps) (l : length ps ≡ n) where
+  e : i ≡ first f ps
+  e = e₀ ∙ from-0 f ps
+
+  pub some-there : i < n → some f ps ≡ true
+  some-there h = found f ps (omega (arith, e))
+
+  pub some-missing : n ≤ i → some f ps ≡ false
+  some-missing h = missing f ps (omega (arith, e))
+
+  pub set-there : (g : Place → Place) (q : Place) → q ≡ g (getD ps i blank) → set ps i q ≡ changeFirst f g ps
+  set-there g q h =
+      subst (λ (k : ℕ). set ps k q ≡ changeFirst f g ps) (sym e)
+      (subst (λ (z : Place). set ps (first f ps) z ≡ changeFirst f g ps) (sym (h ∙ ap (λ (k : ℕ). g (getD ps k blank)) e)) (set-first f g ps))
+
+-- the same from a number on
+from-there : (f : Place → Bool) (ps : List Place) (from i n : ℕ) → i ≡ firstFrom f from ps → length ps ≡ n → ltb i n ≡ some f (drop from ps)
+unfolding firstFrom
+from-there f ps from i n e l =
+    by-lt i n (λ h. lt-ltb i n h ∙ sym (found f (drop from ps) (omega (arith, length-drop from ps))))
+    (λ h. le-ltb i n h ∙ sym (missing f (drop from ps) (omega (arith, length-drop from ps))))
+
+module _ (p : Place) (ps : List Place) (from : ℕ) where
+  pub again-used : (i n : ℕ) → p .used ≡ true → i ≡ firstFrom (named (p .id)) from ps → length ps ≡ n → ltb i n ≡ (p .used && known (p .id) (drop from ps))
+  again-used i n u e l = rw u (from-there (named (p .id)) ps from i n e l)
+
+  pub again-free : p .used ≡ false → false ≡ (p .used && known (p .id) (drop from ps))
+  again-free u = rw u
+
+-- where no place is so, none is at any number
+pub none-at : (f : Place → Bool) (ps : List Place) (i : ℕ) → f blank ≡ false → some f ps ≡ false → f (getD ps i blank) ≡ false
+unfolding some
+none-at f [] i b h = b
+none-at f (p ∷ ps) zero b h = neither (f p) (some f ps) h .0
+none-at f (p ∷ ps) (suc i) b h = none-at f ps i b (neither (f p) (some f ps) h .1)
+
+pub fit-limits : (p : Place) → unfit p ≡ false → (p .attempts ≤ 255) × (p .acked ≤ p .attempts)
+unfolding unfit
+fit-limits p e =
+    let n₁ = neither (ltb 255 (p .attempts)) (ltb (p .attempts) (p .acked) || (free p && nonzero p)) e in
+    let n₂ = neither (ltb (p .attempts) (p .acked)) (free p && nonzero p) (n₁ .1) in
+    (ltb-false 255 (p .attempts) (n₁ .0), ltb-false (p .attempts) (p .acked) (n₂ .0))
+
+-- one set for each crate of functions over places
+pub ruleset searchWays = (free-not, free-is, named-used, named-free, first-next, first-found, first-end)
+
+pub ruleset limitWays = (nonzero-id, nonzero-rank, nonzero-attempts, nonzero-acked, unfit-attempts, unfit-acked, unfit-used, unfit-free, some-next, some-found, some-end, twice-end)
