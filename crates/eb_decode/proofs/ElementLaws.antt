@@ -1,21 +1,18 @@
 -- The laws of the elements: the arrays that loops fill, and each element from its fields. Assumes nothing.
 use Prim.Native.Nat.{ℕ, _+_, _-_, _*_, _/_, _%_, _<_, _≤_, min}
-use mathlib.Core.Path.{_≡_, refl, sym, _∙_, ap}
-use mathlib.Core.Bool.{true, false}
+use mathlib.Core.Path.{_≡_, refl, _∙_}
+use mathlib.Core.Bool.{true}
 use mathlib.Core.List.{List}
 use mathlib.Core.Logic.{inl, inr}
 use native.Mathlib.Omega.{arith}
 use lib.Dec.{lit≤, eqb}
-use lib.ListN.{length, getD, replicate}
-use Rattle.octets_spec.specs.Choice.{ifLt, ifEq}
+use lib.ListN.{length, getD}
+use Rattle.octets_spec.specs.Choice.{ifEq}
 use Rattle.octets_spec.specs.Number.{leAt, beAt}
 use Rattle.octets_spec.specs.Counted.{counted, padded}
 use Rattle.octets_spec.proofs.ChoiceLaws.{if-ge, if-eq, if-ne, either-eq, choices}
 use Rattle.octets_spec.proofs.CountedLaws.{filling}
-use Rattle.eb_record_spec.specs.Record.{blankLink}
-use Rattle.eb_record_spec.specs.declared.JoiningInformation.{JoiningInformation}
-use Rattle.eb_record_spec.specs.declared.TimeslotTemplate.{TimeslotTemplate}
-use Rattle.eb_read_spec.specs.Decode.{timingAt, templateAt, linkAt, slotframeAt, networkOffset, joiningAt}
+use Rattle.eb_read_spec.specs.Decode.{timingAt, templateAt, joiningAt}
 use Rattle.eb_read_spec.proofs.DecodeLaws.{synchronizes, timing-two, template-bare, links-at, slotframe-is, network-from, joining-absent, joining-is}
 use Rattle.eb_read_spec.specs.Inside.{TimeslotLength, JoiningInside}
 

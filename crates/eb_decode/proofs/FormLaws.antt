@@ -6,7 +6,6 @@ use mathlib.Core.List.{List}
 use native.Mathlib.Omega.{arith}
 use lib.Dec.{eqb, ltb}
 use lib.ListN.{length, getD}
-use Rattle.octets_spec.specs.Choice.{ifOn}
 use Rattle.octets_spec.proofs.ChoiceLaws.{if-on, if-off}
 use Rattle.ie_walk_spec.specs.declared.Walk.{Walk}
 use Rattle.eb_record_spec.specs.Record.{blankBeacon}

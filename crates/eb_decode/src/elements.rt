@@ -120,7 +120,7 @@ fn link_at(s: &[u8], at: usize, i: usize) -> Link
     }
 }
 
-// So many links, and blank ones behind them.
+// This many links, and blank ones behind them.
 fn links_at(s: &[u8], at: usize, count: usize) -> [Link; 16]
     requires { ⌜ (count ≤ 16) × (at + (5 + 5 * count) ≤ length (now s)) ⌝ }
     ensures { λ r. ⌜ r ≡ padded (linkAt (now (s .entry)) at) blankLink 16 count ⌝ }
@@ -148,7 +148,7 @@ pub(crate) fn slotframe_at(s: &[u8], at: usize) -> Slotframe
     }
 }
 
-// So many bytes of a network ID that begins `skip` bytes behind an offset.
+// This many bytes of a network ID that begins `skip` bytes behind an offset.
 fn network_within(s: &[u8], at: usize, skip: usize, size: usize) -> [u8; 16]
     requires { ⌜ (size ≤ 16) × (at + (skip + size) ≤ length (now s)) ⌝ }
     ensures { λ r. ⌜ r ≡ padded (λ i. getD (now (s .entry)) (at + (skip + i)) 0) 0 16 size ⌝ }

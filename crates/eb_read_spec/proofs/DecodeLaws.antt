@@ -1,20 +1,14 @@
--- The laws of decoding, in the shape in which the code meets them. Assumes nothing.
-use Prim.Native.Nat.{ℕ, _+_, _-_, _*_, _/_, _%_, _^_, _<_, _≤_, min}
-use mathlib.Core.Path.{_≡_, refl, sym, _∙_}
+-- The laws of decoding: each field and element from its bytes, with what was read as a variable. Assumes nothing.
+use Prim.Native.Nat.{ℕ, _+_, _-_, _*_, _/_, _%_, _<_, min}
+use mathlib.Core.Path.{_≡_, refl, _∙_}
 use mathlib.Core.Bool.{true, false}
 use mathlib.Core.List.{List}
-use native.Mathlib.Nat.{pow-le-pow-right}
-use native.Mathlib.Omega.{arith}
-use mir.Syntax.{w32}
-use mir.Val.{Fits}
-use lib.Dec.{lit<, eqb}
-use lib.ListN.{length, getD, set, replicate, List·getD-eq-default}
-use Rattle.octets_spec.specs.Choice.{ifLt, ifEq}
+use lib.Dec.{eqb}
+use lib.ListN.{length, getD, replicate}
+use Rattle.octets_spec.specs.Choice.{ifEq}
 use Rattle.octets_spec.specs.Number.{leAt, beAt}
 use Rattle.octets_spec.specs.Counted.{counted, padded}
-use Rattle.octets_spec.proofs.ChoiceLaws.{if-lt, if-ge, if-eq, if-ne, choices}
-use Rattle.octets_spec.proofs.NumberLaws.{le-past, be-past, positive}
-use Rattle.octets_spec.proofs.CountedLaws.{filling}
+use Rattle.octets_spec.proofs.ChoiceLaws.{if-lt, if-eq, if-ne}
 use Rattle.mac_header_spec.specs.Control.{controlOf, offsetsOf}
 use Rattle.mac_header_spec.specs.declared.Control.{Control}
 use Rattle.mac_header_spec.specs.declared.FieldOffsets.{FieldOffsets}
@@ -32,17 +26,6 @@ use Rattle.eb_record_spec.specs.declared.Address.the-variants.{Short, Extended}
 use Rattle.eb_record_spec.specs.declared.Link.{Link}
 use Rattle.eb_read_spec.specs.Decode.{sequenceOf, sourceOf, synchronizationAt, timingAt, templateAt, linkAt, slotframeAt, networkOffset, joiningAt, macHeaderOf, decoded}
 use Rattle.eb_read_spec.specs.declared.MacHeader.{MacHeader}
-
--- ---- past the end
-module _ (s : List ℕ) (at k : ℕ) (past : length s ≤ at) where
-  pub byte-past-k : 0 ≡ getD s (at + k) 0
-  byte-past-k = sym (List·getD-eq-default s 0 (omega arith))
-
-  pub le-past-k : (width : ℕ) → 0 ≡ leAt width s (at + k)
-  le-past-k width = le-past s width (at + k) (omega arith)
-
-  pub be-past-k : (width : ℕ) → 0 ≡ beAt width s (at + k)
-  be-past-k width = be-past s width (at + k) (omega arith)
 
 -- ---- fields
 module _ (s : List ℕ) where
@@ -72,18 +55,6 @@ module _ (s : List ℕ) where
     pub timing-two : k < 10 → r ≡ leAt 2 s (at + (1 + 2 * k)) → r ≡ timingAt s at width k
     unfolding timingAt
     timing-two h e = if-lt _ _ k 10 h e
-
-    module _ (after : 10 ≤ k) (narrow : width ≤ 3) where
-      same : min width 8 ≡ width
-      same = omega arith
-
-      pub timing-ten : k ≡ 10 → r ≡ leAt (min width 8) s (at + 21) → r ≡ timingAt s at width k
-      unfolding timingAt
-      timing-ten h e = if-ge _ _ k 10 after (if-eq _ _ k 10 h (rw same at e))
-
-      pub timing-eleven : (k ≡ 10 → ⊥) → r ≡ leAt (min width 8) s (at + (21 + width)) → r ≡ timingAt s at width k
-      unfolding timingAt
-      timing-eleven h e = if-ge _ _ k 10 after (if-ne _ _ k 10 h (rw same at e))
 
   -- ---- elements
   module _ (at id : ℕ) (i : id ≡ getD s at 0) where
@@ -147,8 +118,3 @@ module _ (s : List ℕ) where
       → record { sequence = o .sequence; pan = o .pan; source = o .source; synchronization = y; timeslot = t; hopping = hopping; slotframe = f; joining = j } ≡ decoded s w
   unfolding decoded
   decodes w o y t length hopping f j a b c d e g h = rw (a, b, d, c, e, g, h)
-
-pub narrows : (n width : ℕ) → n < 256 ^ min width 8 → width ≤ 3 → Fits w32 n
-narrows n width small narrow = record { fits = omega (arith, pow-le-pow-right {n = 256} (lit< tt) {i = min width 8} {j = 3} (omega arith)) }
-
-pub ruleset decoding = (choices, filling, positive, byte-past-k, le-past-k, be-past-k, some-sequence, no-sequence, extended, short, synchronizes, timing-two, timing-ten, timing-eleven, template-bare, template-timed, links-at, slotframe-is, network-from, joining-absent, joining-is, opens, decodes, narrows)

@@ -1,4 +1,4 @@
--- What holds of each answer of a choice where its test came out so holds of the choice. Assumes nothing.
+-- What holds of each answer of a choice, given how its test came out, holds of the choice. Assumes nothing.
 use Prim.Native.Nat.{ℕ, _<_, _≤_}
 use mathlib.Core.Path.{_≡_, refl, subst}
 use mathlib.Core.Bool.{Bool, true, false}

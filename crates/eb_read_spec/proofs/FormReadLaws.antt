@@ -3,7 +3,6 @@ use Prim.Native.Nat.{ℕ}
 use mathlib.Core.Path.{_≡_, refl, sym, _∙_, ap}
 use mathlib.Core.Bool.{true}
 use mathlib.Core.List.{List}
-use Rattle.octets_spec.specs.Choice.{ifOn}
 use Rattle.octets_spec.proofs.ChoiceLaws.{if-on}
 use Rattle.eb_record_spec.specs.Record.{blankBeacon}
 use Rattle.eb_record_spec.specs.Form.{formOf, beaconOf, isBeacon}
@@ -14,8 +13,6 @@ use Rattle.eb_read_spec.specs.Decode.{decoded}
 use Rattle.eb_read_spec.specs.Read.{examined, readFrame}
 use Rattle.eb_read_spec.specs.Form.{decodedForm, formReading}
 use Rattle.eb_read_spec.specs.declared.Examination.{Examination}
-use Rattle.eb_read_spec.specs.declared.ReadAnswer.{ReadAnswer}
-use Rattle.eb_read_spec.specs.declared.FormReading.{FormReading}
 use Rattle.eb_read_spec.proofs.ReadLaws.{read-refused, read-done}
 use Rattle.eb_read_spec.proofs.Accepted.{accepted-lies-inside}
 

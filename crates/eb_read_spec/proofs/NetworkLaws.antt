@@ -1,16 +1,14 @@
 -- The laws of the network ID, in the shape in which the code meets them. Assumes nothing.
 use Prim.Native.Nat.{ℕ, _+_, _-_, _*_, _/_, _%_, _<_, _≤_}
-use mathlib.Core.Path.{_≡_, refl, sym, _∙_, ap}
+use mathlib.Core.Path.{_≡_, refl}
 use mathlib.Core.List.{List}
 use native.Mathlib.Omega.{arith}
-use lib.Dec.{lit≤}
-use lib.ListN.{length, getD, take, drop}
-use Rattle.octets_spec.specs.Choice.{ifLt, ifEq}
+use lib.ListN.{length, take, drop}
 use Rattle.octets_spec.specs.Number.{beAt}
 use Rattle.octets_spec.proofs.ChoiceLaws.{if-lt, if-ge, if-eq, if-ne, choices}
 use Rattle.eb_read_spec.specs.Decode.{networkOffset}
 use Rattle.eb_read_spec.specs.Read.{examined}
-use Rattle.eb_read_spec.specs.Inside.{JoiningInside, AcceptedLiesInside}
+use Rattle.eb_read_spec.specs.Inside.{JoiningInside}
 use Rattle.eb_read_spec.specs.Network.{noSpan, spanFrom, networkSpan, networkPart, NetworkLiesInside}
 use Rattle.eb_read_spec.specs.declared.Examination.{Examination}
 use Rattle.eb_read_spec.specs.declared.Span.{Span}

@@ -43,7 +43,7 @@ fn slotframe_limits(size: u64, links: usize, below: bool) -> u8
     OUT_OF_LIMITS
 }
 
-// Whether the timeslots of so many links from an offset on are below the size.
+// Whether the timeslots of this many links from an offset on are below the size.
 fn timeslots_fit(s: &[u8], at: usize, links: usize, size: u64) -> bool
     requires { ⌜ (at + 5 * links < 2 ^ 64) × (links < 256) ⌝ }
     ensures { λ r. ⌜ r ≡ timeslotsFit (now (s .entry)) at links size ⌝ }
