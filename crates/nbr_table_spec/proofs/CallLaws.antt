@@ -42,34 +42,6 @@ newcomer-is n r b e = ap (λ (z : Place). record { id = n; rank = r; attempts = 
 pub empty-is : (b : Place) → b ≡ blank → _≡_ {A = Table} (record { places = replicate 32 b; parent = None }) emptyTable
 empty-is b e = ap (λ (z : Place). record { places = replicate 32 z; parent = None }) e
 
-module _ (q : Parent) (ps : List Place) where
-  pub missing-none : q ≡ None → false ≡ parentMissing q ps
-  unfolding parentMissing
-  missing-none e = rw e
-
-  module _ (n i : ℕ) (e : q ≡ Held n) (s : i ≡ firstFrom (named n) 0 ps) (l : length ps ≡ 32) where
-    pub missing-known : i < 32 → false ≡ parentMissing q ps
-    unfolding parentMissing
-    missing-known h = rw (e, some-there (named n) ps i 32 s l h)
-
-    pub missing-unknown : 32 ≤ i → true ≡ parentMissing q ps
-    unfolding parentMissing
-    missing-unknown h = rw (e, some-missing (named n) ps i 32 s l h)
-
-module _ (t : Table) (x : Bool) where
-  pub broken-unfit : x ≡ some unfit (t .places) → x ≡ true → true ≡ broken t
-  unfolding broken
-  broken-unfit e u = simp (← e, u)
-
-  module _ (y : Bool) (e : x ≡ some unfit (t .places)) (u : x ≡ false) (f : y ≡ twice (t .places)) where
-    pub broken-twice : y ≡ true → true ≡ broken t
-    unfolding broken
-    broken-twice v = simp (← e, u, ← f, v)
-
-    pub broken-parent : (z : Bool) → y ≡ false → z ≡ parentMissing (t .parent) (t .places) → z ≡ broken t
-    unfolding broken
-    broken-parent z v g = simp (← e, u, ← f, v, g)
-
 -- a place that is not unfit is within its limits
 module _ (p : Place) (x : Bool) (e : x ≡ unfit p) (u : x ≡ false) where
   pub fit-attempts : p .attempts ≤ 255
@@ -256,8 +228,6 @@ place-out t i p l h = ap (withPlaces t) (sym (set-out (t .places) i p (omega ari
 
 -- one set for each crate of functions over a table
 pub ruleset emptyWays = (empty-is)
-
-pub ruleset checkWays = (length-mapped, missing-none, missing-known, missing-unknown, broken-unfit, broken-twice, broken-parent)
 
 pub ruleset storeWays = (length-mapped, place-out)
 
