@@ -20,7 +20,7 @@ use Rattle.nbr_table_spec.specs.declared.Evaluation.{Evaluation}
 use Rattle.nbr_table_spec.specs.declared.Parent.{Parent}
 use Rattle.nbr_table_spec.specs.declared.Parent.the-variants.{None, Held}
 use Rattle.nbr_table_spec.specs.declared.Table.{Table}
-use Rattle.nbr_table_spec.specs.Calls.{advertised, answer, broken, chosen, evaluated, evaluation, forgotten, heldPlace, reported, sameParent, settled, withParent, withPlaces, without}
+use Rattle.nbr_table_spec.specs.Calls.{advertised, answer, broken, chosen, evaluated, evaluation, forgotten, heldPlace, idOf, markOf, reported, sameParent, settled, withParent, withPlaces, without}
 use Rattle.nbr_table_spec.specs.Stores.{advertising, forgetting, reporting}
 use Rattle.nbr_table_spec.proofs.PlaceLaws.{clash, length-mapped}
 use Rattle.nbr_table_spec.proofs.CallLaws.{advertised-broken, evaluated-broken, evaluated-done, forgotten-broken, reported-broken}
@@ -34,7 +34,7 @@ use Rattle.c_table_spec.specs.declared.TableForm.{TableForm}
 use Rattle.c_table_spec.specs.declared.TableAnswer.{TableAnswer}
 use Rattle.c_table_spec.specs.declared.EvaluationAnswer.{EvaluationAnswer}
 use Rattle.c_table_spec.specs.declared.ReplayAnswer.{ReplayAnswer}
-use Rattle.c_table_spec.specs.Table.{advertisedForm, answerForm, emptyForm, evaluatedForm, evaluationForm, evaluationRefusal, forgottenForm, formOf, idOf, isParent, isTable, markOf, outcomeForm, parentOf, refusal, refused, replayRefusal, replayedForm, reportedForm, storedForm, tableOf}
+use Rattle.c_table_spec.specs.Table.{advertisedForm, answerForm, emptyForm, evaluatedForm, evaluationForm, evaluationRefusal, forgottenForm, formOf, isParent, isTable, outcomeForm, parentOf, refusal, refused, replayRefusal, replayedForm, reportedForm, storedForm, tableOf}
 use Rattle.c_table_spec.specs.Claims.{formEvaluations, noneRefusedInC}
 use Rattle.c_table_spec.proofs.FormLaws.{id-back, mark-back, tables-are-forms}
 use Rattle.c_table_spec.proofs.Agree.{accepted, none-refused-in-c}
@@ -47,23 +47,6 @@ parent-held held id e = rw e
 pub parent-none : (held : Bool) (id : ℕ) → held ≡ false → None ≡ parentOf held id
 unfolding parentOf
 parent-none held id e = rw e
-
-module _ (q : Parent) where
-  pub mark-held : (id : ℕ) → q ≡ Held id → true ≡ markOf q
-  unfolding markOf
-  mark-held id e = rw e
-
-  pub mark-none : q ≡ None → false ≡ markOf q
-  unfolding markOf
-  mark-none e = rw e
-
-  pub id-held : (id : ℕ) → q ≡ Held id → id ≡ idOf q
-  unfolding idOf
-  id-held id e = rw e
-
-  pub id-none : q ≡ None → 0 ≡ idOf q
-  unfolding idOf
-  id-none e = rw e
 
 pub is-held : (held : Bool) (id : ℕ) → held ≡ true → true ≡ isParent held id
 unfolding isParent
@@ -219,7 +202,7 @@ module _ (form : TableForm) (l : Log) where
       ),
     )
 
-pub ruleset formWays = (parent-held, parent-none, mark-held, mark-none, id-held, id-none, is-held, is-none, refused-stray, refused-broken, length-mapped, stored-out)
+pub ruleset formWays = (parent-held, parent-none, is-held, is-none, refused-stray, refused-broken, length-mapped, stored-out)
 
 pub ruleset replayWays = (replay-stray, replay-done)
 

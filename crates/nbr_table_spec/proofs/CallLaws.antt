@@ -23,7 +23,7 @@ use Rattle.nbr_table_spec.specs.declared.Answer.{Answer}
 use Rattle.nbr_table_spec.specs.declared.Choice.{Choice}
 use Rattle.nbr_table_spec.specs.declared.Evaluation.{Evaluation}
 use Rattle.nbr_table_spec.specs.Changes.{attempted, newcomer, withCounters, withRank}
-use Rattle.nbr_table_spec.specs.Calls.{advertised, answer, broken, choice, choiceOf, chosen, emptyTable, evaluated, evaluation, forgotten, held, heldPlace, parentMissing, reported, sameParent, settled, withParent, withPlaces, without}
+use Rattle.nbr_table_spec.specs.Calls.{advertised, answer, broken, choice, choiceOf, chosen, emptyTable, evaluated, evaluation, forgotten, held, heldPlace, idOf, markOf, parentMissing, reported, sameParent, settled, withParent, withPlaces, without}
 
 -- ---- what a place becomes
 module _ (p : Place) (k : ℕ) (ok : Bool) (more : ℕ) (q : Place) (e : more ≡ cond ok 1 0) where
@@ -204,6 +204,24 @@ module _ (t : Table) (x : Bool) (e : x ≡ broken t) where
       ap (λ (y : Table). evaluation 0 y (c .rank)) w ∙ ap (settled t) k in
       search choices
 
+-- ---- the held parent
+module _ (q : Parent) where
+  pub mark-held : (id : ℕ) → q ≡ Held id → true ≡ markOf q
+  unfolding markOf
+  mark-held id e = rw e
+
+  pub mark-none : q ≡ None → false ≡ markOf q
+  unfolding markOf
+  mark-none e = rw e
+
+  pub id-held : (id : ℕ) → q ≡ Held id → id ≡ idOf q
+  unfolding idOf
+  id-held id e = rw e
+
+  pub id-none : q ≡ None → 0 ≡ idOf q
+  unfolding idOf
+  id-none e = rw e
+
 -- ---- two held parents
 module _ (q p : Parent) where
   pub same-none : q ≡ None → p ≡ None → true ≡ sameParent q p
@@ -235,4 +253,4 @@ pub ruleset heldWays = (length-mapped, held-none, held-at, at-out)
 
 pub ruleset evaluateWays = (evaluated-broken, evaluated-done)
 
-pub ruleset sameWays = (same-none, same-gained, same-lost, same-held)
+pub ruleset sameWays = (mark-held, mark-none, id-held, id-none, same-none, same-gained, same-lost, same-held)
