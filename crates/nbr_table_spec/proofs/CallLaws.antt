@@ -251,6 +251,4 @@ pub ruleset storeWays = (length-mapped, place-out)
 
 pub ruleset heldWays = (length-mapped, held-none, held-at, at-out)
 
-pub ruleset evaluateWays = (evaluated-broken, evaluated-done)
-
 pub ruleset sameWays = (mark-held, mark-none, id-held, id-none, same-none, same-gained, same-lost, same-held)

@@ -24,11 +24,12 @@ use Rattle.nbr_table_spec.specs.declared.Parent.the-variants.{None, Held
 use Rattle.nbr_table_spec.specs.declared.Settlement.{Settlement}
 use Rattle.nbr_table_spec.specs.declared.Sought.{Sought}
 use Rattle.nbr_table_spec.specs.declared.Survey.{Survey}
+use Rattle.nbr_table_spec.specs.declared.Table.{Table}
 use Rattle.nbr_table_spec.specs.Places.{best, bestOf, better, firstOf, named, nearer}
-use Rattle.nbr_table_spec.specs.Calls.{choice, choiceOf, chosen, heldPlace, idOf, markOf}
+use Rattle.nbr_table_spec.specs.Calls.{broken, choice, choiceOf, chosen, evaluated, evaluation, heldPlace, idOf, markOf, withParent}
 use Rattle.nbr_table_spec.specs.Offers.{lower, lowest, offerOf, settlement, sought, surveyed}
 use Rattle.nbr_table_spec.proofs.PlaceLaws.{clash, better-both, better-new, better-old, nearer-cost, nearer-held, nearer-id, nearer-tie}
-use Rattle.nbr_table_spec.proofs.CallLaws.{chosen-best, chosen-change, chosen-keep, chosen-none}
+use Rattle.nbr_table_spec.proofs.CallLaws.{chosen-best, chosen-change, chosen-keep, chosen-none, evaluated-broken, evaluated-done}
 
 -- ---- the lower of two offers
 module _ (a b : Offer) where
@@ -245,3 +246,9 @@ survey-is id ps i held found n q o s e l m k h = surveyed-is id ps i (target id 
 pub ruleset surveyWays = (lowest-start, lowest-next, seeking-start, seeking-next, survey-is)
 
 pub ruleset settleWays = (offer-fits, settled-none, settled-best, settled-change, settled-keep)
+
+-- ---- an evaluation
+pub evaluated-settled : (t v : Table) (x : Bool) (m : Settlement) → x ≡ broken t → x ≡ false → m ≡ settlement (t .places) (t .parent) → v ≡ withParent t (m .choice .parent) → evaluation 0 v (m .choice .rank) ≡ evaluated t
+evaluated-settled t v x m e u k w = evaluated-done t x e (m .choice) v u (ap (λ (z : Settlement). z .choice) k) w
+
+pub ruleset evaluateWays = (evaluated-broken, evaluated-settled)
