@@ -3,6 +3,7 @@ use Prim.Native.Nat.{ℕ, _+_, _-_, _*_, _<_, _≤_, _^_}
 use mathlib.Core.Path.{_≡_, refl, sym, _∙_}
 use mathlib.Core.Bool.{Bool, true, false, _&&_, _||_}
 use mathlib.Core.List.{List}
+use native.Mathlib.Omega.{arith}
 use lib.Dec.{eqb, ltb}
 use lib.ListN.{length, getD}
 use Rattle.octets_spec.specs.Choice.{ifOn}
@@ -30,6 +31,9 @@ module _ (s : List ℕ) (walk : Walk) (test : Bool) (is : test ≡ liesInside s 
   module _ (on : test ≡ true) where
     facts : ElementsInside s walk
     facts = inside-facts s walk (sym is ∙ on)
+
+    pub header-inside : 6 ≤ length s
+    header-inside = omega (arith, facts .synchronization)
 
     pub synchronization-inside : walk .synchronization + 6 ≤ length s
     synchronization-inside = facts .synchronization
@@ -93,4 +97,4 @@ pub blank-fits : (form : BeaconForm) → form ≡ formOf blankBeacon → isBeaco
 unfolding formOf isBeacon isSequenced sequenceNumber isExtended addressNumber
 blank-fits form e = rw e refl
 
-pub ruleset forms = (form-blank, synchronization-inside, timeslot-inside, timeslot-long, hopping-inside, slotframe-few, slotframe-inside, joining-inside, form-decoded, header-fits, blank-fits)
+pub ruleset forms = (form-blank, header-inside, synchronization-inside, timeslot-inside, timeslot-long, hopping-inside, slotframe-few, slotframe-inside, joining-inside, form-decoded, header-fits, blank-fits)

@@ -45,6 +45,10 @@ pub source-low : (control : Control) (offsets : FieldOffsets) → offsets ≡ of
 unfolding offsetsOf
 source-low control offsets e = rw e (omega (arith, either-eq (λ n. n ≤ 3) 3 2 (lit≤ tt) (lit≤ tt) (control .suppressed) 0, short-or-extended (control .destination)))
 
+pub pan-inside : (s : List ℕ) (control : Control) (offsets : FieldOffsets) → offsets ≡ offsetsOf control → 6 ≤ length s → offsets .pan + 2 ≤ length s
+unfolding offsetsOf
+pan-inside s control offsets e long = rw e (omega (arith, either-eq (λ n. n ≤ 3) 3 2 (lit≤ tt) (lit≤ tt) (control .suppressed) 0))
+
 module _ (s : List ℕ) where
   is-sequenced : (q : ℕ) → isSequenced (sequenceOf s q) ≡ eqb q 0
   unfolding sequenceOf isSequenced
@@ -91,4 +95,4 @@ unfolding ifEq
 header-fits suppressed mode byte sequence source e short =
     by-test (eqb suppressed 0) (λ t. rw (t, kind-fits mode source short) refl) (λ t. let none : sequence ≡ 0 = rw t at e in rw (none, t, kind-fits mode source short) refl)
 
-pub ruleset heading = (choices, source-low, header-is, sequence-small, source-wide, source-short, header-fits)
+pub ruleset heading = (choices, source-low, pan-inside, header-is, sequence-small, source-wide, source-short, header-fits)

@@ -3,6 +3,7 @@ ghost use mathlib.Core.Path.{_≡_};
 ghost use mathlib.Core.Bool.{true, _&&_, _||_};
 ghost use Prim.Native.Nat.{_≤_, _<_, _^_};
 ghost use lib.Dec.{ltb, eqb};
+ghost use lib.ListN.{length};
 ghost use Rattle.octets_spec.specs.Choice.{ifEq};
 ghost use Rattle.octets_spec.specs.Number.{leAt};
 ghost use Rattle.eb_decode.specs.Header.{headerForm};
@@ -41,16 +42,17 @@ fn source(s: &[u8], mode: u64, at: usize) -> u64
 // The sequence number, the PAN and the source of a frame. They are those of a record: no number where there is none, and no short source
 // over 16 bits.
 pub(crate) fn header_at(s: &[u8]) -> HeaderForm
+    requires { ⌜ 6 ≤ length (now s) ⌝ }
     ensures { λ r. ⌜ (r ≡ headerForm (now (s .entry))) × (((r .sequenced || eqb (r .sequence) 0) && (r .extended || ltb (r .source) (2 ^ 16))) ≡ true) ⌝ }
 {
-    let control = mac_header::control_of(octets::get::le(s, 0, 2));
+    let control = mac_header::control_of(fixed::le16(s, 0));
     let offsets = mac_header::offsets_of(control);
     let pan = offsets.pan;
     let at = offsets.source;
     HeaderForm {
         sequenced: control.suppressed == 0,
-        sequence: fixed::choose(control.suppressed, 0, octets::get::byte(s, 2), 0) as u8,
-        pan: octets::get::le(s, pan, 2) as u16,
+        sequence: fixed::choose(control.suppressed, 0, fixed::byte(s, 2), 0) as u8,
+        pan: fixed::le16(s, pan) as u16,
         extended: control.source == EXTENDED,
         source: source(s, control.source, at),
     }

@@ -8,7 +8,7 @@ is-inside-requires : tie.Need-is-inside-requires
 is-inside-requires c κs = search needs
 
 header-at-requires : tie.Need-header-at-requires
-header-at-requires c κs = search needs
+header-at-requires c κs = search (needs, forms)
 
 synchronization-at-requires : tie.Need-synchronization-at-requires
 synchronization-at-requires c κs = search (needs, forms)

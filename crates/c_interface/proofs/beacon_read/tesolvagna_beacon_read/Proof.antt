@@ -1,5 +1,5 @@
 -- `c_interface::beacon_read::tesolvagna_beacon_read` meets its contract. Assumes nothing.
-use Rattle.eb_read_spec.proofs.FormReadLaws.{read-blank, read-form}
+use Rattle.eb_read_spec.proofs.FormReadLaws.{form-reading}
 use borrow.Author.Needs.{needs}
 use Rattle.c_interface.proofs.beacon_read.tesolvagna_beacon_read.Statement.{statement}
 use Rattle.c_interface.proofs.beacon_read.tesolvagna_beacon_read.Tie as tie
@@ -11,13 +11,13 @@ blank-form-requires : tie.Need-blank-form-requires
 blank-form-requires c κs = search needs
 
 returns : tie.Need-returns
-returns c = read-blank _ _ (c .before .before .before .examine .ensures .0) _ (search needs) (c .blank-form .ensures)
+returns c = search (needs, form-reading)
 
 decode-requires : tie.Need-decode-requires
 decode-requires c κs = search needs
 
 returns-2 : tie.Need-returns-2
-returns-2 c = read-form _ _ (c .before .before .before .before .examine .ensures .0) (search needs) _ (c .decode .ensures .0)
+returns-2 c = search (needs, form-reading)
 
 pub tesolvagna-beacon-read-spec : {M : Type 1} → statement M
 tesolvagna-beacon-read-spec =

@@ -4,8 +4,8 @@ use borrow.Author.Needs.{needs}
 use Rattle.eb_decode.proofs.header.header_at.Statement.{statement}
 use Rattle.eb_decode.proofs.header.header_at.Tie as tie
 
-le-requires : tie.Need-le-requires
-le-requires c κs = search needs
+le16-requires : tie.Need-le16-requires
+le16-requires c κs = search needs
 
 control-of-requires : tie.Need-control-of-requires
 control-of-requires c κs = search needs
@@ -22,8 +22,8 @@ choose-requires c κs = search needs
 cast-t9 : tie.Need-cast-t9
 cast-t9 c = search (needs, heading)
 
-le-requires-2 : tie.Need-le-requires-2
-le-requires-2 c κs = search needs
+le16-requires-2 : tie.Need-le16-requires-2
+le16-requires-2 c κs = search (needs, heading)
 
 cast-t11 : tie.Need-cast-t11
 cast-t11 c = search needs
@@ -38,13 +38,13 @@ pub header-at-spec : {M : Type 1} → statement M
 header-at-spec =
     tie.close
     (tie.spec
-    le-requires
+    le16-requires
     control-of-requires
     offsets-of-requires
     byte-requires
     choose-requires
     cast-t9
-    le-requires-2
+    le16-requires-2
     cast-t11
     source-requires
     returns)
