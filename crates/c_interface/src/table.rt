@@ -1,8 +1,6 @@
 // The neighbour table for C: a table goes in by value and comes back by value with the call's number, also where the call is refused.
-use c_table::id_of;
 use c_table::is_parent;
 use c_table::is_refused;
-use c_table::mark_of;
 use c_table::parent_of;
 use c_table::stored;
 use c_table_spec::EvaluationAnswer;
@@ -10,6 +8,9 @@ use c_table_spec::ReplayAnswer;
 use c_table_spec::TableAnswer;
 use c_table_spec::TableForm;
 use nbr_metric_spec::INFINITE_RANK;
+use nbr_parent::held_parent::id_of;
+use nbr_parent::held_parent::mark_of;
+use nbr_parent::held_parent::same;
 use nbr_table_spec::Table;
 use refusal::DONE;
 use refusal::OUT_OF_LIMITS;
@@ -110,7 +111,8 @@ pub extern "C" fn tesolvagna_table_evaluate(table: TableForm) -> EvaluationAnswe
         };
     }
     let before = parent_of(table.held, table.parent);
-    let choice = nbr_parent::settle(places, before);
+    let settlement = nbr_parent::settle(places, before);
+    let choice = settlement.choice;
     let chosen = choice.parent;
     let held = mark_of(chosen);
     let parent = id_of(chosen);
@@ -119,7 +121,7 @@ pub extern "C" fn tesolvagna_table_evaluate(table: TableForm) -> EvaluationAnswe
     changed.parent = parent;
     EvaluationAnswer {
         number: DONE,
-        changed: !nbr_parent::held_parent::same(before, chosen),
+        changed: !same(before, chosen),
         rank: choice.rank,
         held,
         parent,

@@ -6,7 +6,7 @@ use nbr_table_spec::Change;
 use nbr_table_spec::PLACES;
 use nbr_table_spec::Parent;
 ghost use mathlib.Core.Path.{_≡_};
-ghost use Rattle.c_table_spec.specs.Table.{idOf, isParent, markOf, parentOf, refused, storedForm};
+ghost use Rattle.c_table_spec.specs.Table.{isParent, parentOf, refused, storedForm};
 
 // The parent that a mark and an identifier are.
 pub fn parent_of(held: bool, id: u64) -> Parent
@@ -16,26 +16,6 @@ pub fn parent_of(held: bool, id: u64) -> Parent
         return Parent::Held(id);
     }
     Parent::None
-}
-
-// Whether a parent is held.
-pub fn mark_of(parent: Parent) -> bool
-    ensures { λ r. ⌜ r ≡ markOf parent ⌝ }
-{
-    match parent {
-        Parent::Held(_) => true,
-        Parent::None => false,
-    }
-}
-
-// The held parent's identifier, 0 for none.
-pub fn id_of(parent: Parent) -> u64
-    ensures { λ r. ⌜ r ≡ idOf parent ⌝ }
-{
-    match parent {
-        Parent::Held(id) => id,
-        Parent::None => 0,
-    }
 }
 
 // Whether a mark and an identifier are a held parent or none: no identifier where none is held.

@@ -19,8 +19,10 @@ use Rattle.nbr_table_spec.specs.declared.Choice.{Choice}
 use Rattle.nbr_table_spec.specs.declared.Evaluation.{Evaluation}
 use Rattle.nbr_table_spec.specs.declared.Parent.{Parent}
 use Rattle.nbr_table_spec.specs.declared.Parent.the-variants.{None, Held}
+use Rattle.nbr_table_spec.specs.declared.Settlement.{Settlement}
 use Rattle.nbr_table_spec.specs.declared.Table.{Table}
-use Rattle.nbr_table_spec.specs.Calls.{advertised, answer, broken, chosen, evaluated, evaluation, forgotten, heldPlace, reported, sameParent, settled, withParent, withPlaces, without}
+use Rattle.nbr_table_spec.specs.Calls.{advertised, answer, broken, chosen, evaluated, evaluation, forgotten, heldPlace, idOf, markOf, reported, sameParent, settled, withParent, withPlaces, without}
+use Rattle.nbr_table_spec.specs.Offers.{settlement}
 use Rattle.nbr_table_spec.specs.Stores.{advertising, forgetting, reporting}
 use Rattle.nbr_table_spec.proofs.PlaceLaws.{clash, length-mapped}
 use Rattle.nbr_table_spec.proofs.CallLaws.{advertised-broken, evaluated-broken, evaluated-done, forgotten-broken, reported-broken}
@@ -34,7 +36,7 @@ use Rattle.c_table_spec.specs.declared.TableForm.{TableForm}
 use Rattle.c_table_spec.specs.declared.TableAnswer.{TableAnswer}
 use Rattle.c_table_spec.specs.declared.EvaluationAnswer.{EvaluationAnswer}
 use Rattle.c_table_spec.specs.declared.ReplayAnswer.{ReplayAnswer}
-use Rattle.c_table_spec.specs.Table.{advertisedForm, answerForm, emptyForm, evaluatedForm, evaluationForm, evaluationRefusal, forgottenForm, formOf, idOf, isParent, isTable, markOf, outcomeForm, parentOf, refusal, refused, replayRefusal, replayedForm, reportedForm, storedForm, tableOf}
+use Rattle.c_table_spec.specs.Table.{advertisedForm, answerForm, emptyForm, evaluatedForm, evaluationForm, evaluationRefusal, forgottenForm, formOf, isParent, isTable, outcomeForm, parentOf, refusal, refused, replayRefusal, replayedForm, reportedForm, storedForm, tableOf}
 use Rattle.c_table_spec.specs.Claims.{formEvaluations, noneRefusedInC}
 use Rattle.c_table_spec.proofs.FormLaws.{id-back, mark-back, tables-are-forms}
 use Rattle.c_table_spec.proofs.Agree.{accepted, none-refused-in-c}
@@ -47,23 +49,6 @@ parent-held held id e = rw e
 pub parent-none : (held : Bool) (id : ℕ) → held ≡ false → None ≡ parentOf held id
 unfolding parentOf
 parent-none held id e = rw e
-
-module _ (q : Parent) where
-  pub mark-held : (id : ℕ) → q ≡ Held id → true ≡ markOf q
-  unfolding markOf
-  mark-held id e = rw e
-
-  pub mark-none : q ≡ None → false ≡ markOf q
-  unfolding markOf
-  mark-none e = rw e
-
-  pub id-held : (id : ℕ) → q ≡ Held id → id ≡ idOf q
-  unfolding idOf
-  id-held id e = rw e
-
-  pub id-none : q ≡ None → 0 ≡ idOf q
-  unfolding idOf
-  id-none e = rw e
 
 pub is-held : (held : Bool) (id : ℕ) → held ≡ true → true ≡ isParent held id
 unfolding isParent
@@ -168,10 +153,12 @@ module _ (form : TableForm) (x : Bool) (e : x ≡ refused form) where
           ∙ ap (λ (z : TableAnswer). record { number = z .number; table = record { places = z .table .places; held = markOf (without id (tableOf form .parent)); parent = idOf (without id (tableOf form .parent)) } }) k
           ∙ ap answerForm y)
 
-    pub evaluate-done : (q : Parent) (c : Choice) (same held : Bool) (left : ℕ) → q ≡ parentOf (form .held) (form .parent) → c ≡ chosen q (heldPlace q (form .places)) (best (form .places)) → same ≡ sameParent q (c .parent) → held ≡ markOf (c .parent) → left ≡ idOf (c .parent)
-        → _≡_ {A = EvaluationAnswer} (record { number = 0; changed = not same; rank = c .rank; held = held; parent = left; table = record { places = form .places; held = held; parent = left } }) (evaluatedForm form)
+    pub evaluate-done : (q : Parent) (w : Settlement) (same held : Bool) (left : ℕ) → q ≡ parentOf (form .held) (form .parent) → w ≡ settlement (form .places) q → same ≡ sameParent q (w .choice .parent) → held ≡ markOf (w .choice .parent) → left ≡ idOf (w .choice .parent)
+        → _≡_ {A = EvaluationAnswer} (record { number = 0; changed = not same; rank = w .choice .rank; held = held; parent = left; table = record { places = form .places; held = held; parent = left } }) (evaluatedForm form)
     unfolding evaluatedForm
-    evaluate-done q c same held left g f s m n =
+    evaluate-done q w same held left g f₀ s m n =
+        let c : Choice = w .choice in
+        let f : c ≡ chosen q (heldPlace q (form .places)) (best (form .places)) = ap (λ (z : Settlement). z .choice) f₀ in
         let f₂ : c ≡ chosen (tableOf form .parent) (heldPlace (tableOf form .parent) (form .places)) (best (form .places)) = f ∙ ap (λ (z : Parent). chosen z (heldPlace z (form .places)) (best (form .places))) g in
         let s₂ : same ≡ sameParent (tableOf form .parent) (c .parent) = s ∙ ap (λ (z : Parent). sameParent z (c .parent)) g in
         let y = evaluated-done (tableOf form) (broken (tableOf form)) refl c (withParent (tableOf form) (c .parent)) fine f₂ refl in
@@ -219,7 +206,7 @@ module _ (form : TableForm) (l : Log) where
       ),
     )
 
-pub ruleset formWays = (parent-held, parent-none, mark-held, mark-none, id-held, id-none, is-held, is-none, refused-stray, refused-broken, length-mapped, stored-out)
+pub ruleset formWays = (parent-held, parent-none, is-held, is-none, refused-stray, refused-broken, length-mapped, stored-out)
 
 pub ruleset replayWays = (replay-stray, replay-done)
 

@@ -8,8 +8,9 @@ use Rattle.nbr_table_spec.proofs.PlaceLaws.{clash}
 use Rattle.nbr_table_spec.specs.declared.Parent.{Parent}
 use Rattle.nbr_table_spec.specs.declared.Parent.the-variants.{None, Held}
 use Rattle.nbr_table_spec.specs.declared.Table.{Table}
+use Rattle.nbr_table_spec.specs.Calls.{idOf, markOf}
 use Rattle.c_table_spec.specs.declared.TableForm.{TableForm}
-use Rattle.c_table_spec.specs.Table.{formOf, idOf, isParent, markOf, parentOf, tableOf}
+use Rattle.c_table_spec.specs.Table.{formOf, isParent, parentOf, tableOf}
 use Rattle.c_table_spec.specs.Claims.{FormsAreTables, TablesAreForms}
 
 -- ---- the held parent

@@ -3,9 +3,9 @@ use mathlib.Core.Path.{refl}
 use Rattle.octets_spec.specs.Choice.{ifEq, ifLt, ifOn}
 use Rattle.nbr_metric_spec.specs.Metric.{eligible, increment, pathCost}
 use Rattle.nbr_table_spec.specs.Places.{bestOf, better, changeFirst, firstOf, free, named, nearer, nonzero, some, twice, unfit}
-use Rattle.nbr_table_spec.specs.Calls.{advertised, parentMissing, broken, chosen, evaluated, heldPlace, sameParent}
+use Rattle.nbr_table_spec.specs.Calls.{advertised, broken, chosen, evaluated, heldPlace, idOf, markOf, parentMissing, sameParent}
 use Rattle.nbr_stability_spec.specs.Stability.{any, changes, eachEligible, rises}
-use Rattle.c_table_spec.specs.Table.{advertisedForm, evaluatedForm, idOf, isParent, markOf, parentOf, refused}
+use Rattle.c_table_spec.specs.Table.{advertisedForm, evaluatedForm, isParent, parentOf, refused}
 use Rattle.c_table_spec.specs.Claims.{Witnessed, appliesInC, flagged, formAfter, formEvaluations, numberAfter}
 
 pub witnessed : Witnessed

@@ -12,7 +12,7 @@ use Rattle.nbr_table_spec.specs.declared.Table.{Table}
 use Rattle.nbr_table_spec.specs.declared.Answer.{Answer}
 use Rattle.nbr_table_spec.specs.declared.Change.{Change}
 use Rattle.nbr_table_spec.specs.declared.Evaluation.{Evaluation}
-use Rattle.nbr_table_spec.specs.Calls.{advertised, broken, emptyTable, evaluated, forgotten, reported, sameParent}
+use Rattle.nbr_table_spec.specs.Calls.{advertised, broken, emptyTable, evaluated, forgotten, idOf, markOf, reported, sameParent}
 use Rattle.nbr_replay_spec.specs.declared.Outcome.{Outcome}
 use Rattle.nbr_replay_spec.specs.Log.{Log}
 use Rattle.nbr_replay_spec.specs.Replay.{replayed}
@@ -22,16 +22,6 @@ use Rattle.c_table_spec.specs.declared.EvaluationAnswer.{EvaluationAnswe
 use Rattle.c_table_spec.specs.declared.ReplayAnswer.{ReplayAnswer}
 
 -- ---- the held parent
--- whether a parent is held
-unfoldable pub markOf : Parent → Bool
-markOf None = false
-markOf (Held id) = true
-
--- the held parent's identifier, 0 for none
-unfoldable pub idOf : Parent → ℕ
-idOf None = 0
-idOf (Held id) = id
-
 -- the parent that a mark and an identifier are
 unfoldable pub parentOf : Bool → ℕ → Parent
 parentOf false id = None

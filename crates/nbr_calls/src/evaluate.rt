@@ -22,7 +22,8 @@ pub fn evaluate(table: Table) -> Evaluation
             rank: INFINITE_RANK,
         };
     }
-    let choice = settle(places, parent);
+    let settlement = settle(places, parent);
+    let choice = settlement.choice;
     let chosen = choice.parent;
     Evaluation {
         number: DONE,

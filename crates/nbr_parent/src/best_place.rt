@@ -1,12 +1,17 @@
-// What the best place of a table offers: least path cost, then lower identifier. The rules are those of docs/RULES.md, Neighbours.
+// One walk over the places of a table for an evaluation: what the best place offers, by least path cost, then lower identifier, and
+// the place of the held parent. The rules are those of docs/RULES.md, Neighbours.
+use crate::held_parent::id_of;
+use crate::held_parent::mark_of;
 use nbr_metric::offer;
 use nbr_metric_spec::NO_OFFER;
 use nbr_metric_spec::Place;
 use nbr_table_spec::Offer;
 use nbr_table_spec::PLACES;
+use nbr_table_spec::Parent;
+use nbr_table_spec::Sought;
+use nbr_table_spec::Survey;
 ghost use mathlib.Core.Path.{_≡_};
-ghost use Rattle.nbr_table_spec.specs.Places.{best};
-ghost use Rattle.nbr_table_spec.specs.Offers.{lower as lowerOf, offerOf};
+ghost use Rattle.nbr_table_spec.specs.Offers.{lower as lowerOf, sought as soughtOf, surveyed};
 
 // The lower of two offers.
 fn lower(kept: Offer, other: Offer) -> Offer
@@ -24,10 +29,34 @@ fn lower(kept: Offer, other: Offer) -> Offer
     kept
 }
 
-// What the best place offers, and its identifier; NO_OFFER with 0 if no place is eligible.
-pub fn best_offer(places: [Place; 32]) -> Offer
-    ensures { λ r. ⌜ r ≡ offerOf (best places) ⌝ }
+// The held parent once one place more was looked at.
+fn sought(found: Sought, place: Place, id: u64) -> Sought
+    ensures { λ r. ⌜ r ≡ soughtOf id found place ⌝ }
 {
+    if found.missing {
+        if place.used {
+            if place.id == id {
+                return Sought {
+                    missing: false,
+                    place,
+                };
+            }
+            return found;
+        }
+        return found;
+    }
+    found
+}
+
+// What the best place offers, with its identifier (NO_OFFER with 0 if no place is eligible), and the place of the held parent.
+pub fn survey(places: [Place; 32], parent: Parent) -> Survey
+    ensures { λ r. ⌜ r ≡ surveyed places parent ⌝ }
+{
+    let id = id_of(parent);
+    let mut found = Sought {
+        missing: mark_of(parent),
+        place: nbr_metric_spec::blank(),
+    };
     let mut kept = Offer {
         cost: NO_OFFER,
         id: 0,
@@ -42,7 +71,9 @@ pub fn best_offer(places: [Place; 32]) -> Offer
                 id: place.id,
             },
         );
+        found = sought(found, place, id);
         i += 1;
     }
-    kept
+    let held = found.place;
+    Survey { best: kept, held }
 }

@@ -1,30 +1,25 @@
-// The held parent: its place, and whether two are the same.
-use nbr_metric_spec::Place;
-use nbr_table::search::find;
-use nbr_table_spec::PLACES;
+// The held parent: its mark and identifier, and whether two are the same.
 use nbr_table_spec::Parent;
 ghost use mathlib.Core.Path.{_≡_};
-ghost use lib.ListN.{getD};
-ghost use Rattle.nbr_metric_spec.specs.Metric.{blank};
-ghost use Rattle.nbr_table_spec.specs.Calls.{heldPlace, sameParent};
+ghost use Rattle.nbr_table_spec.specs.Calls.{idOf, markOf, sameParent};
 
-// The place at a number, the blank one past 31.
-fn place_at(places: [Place; 32], i: usize) -> Place
-    ensures { λ r. ⌜ r ≡ getD places i blank ⌝ }
-{
-    if i < PLACES {
-        return places[i];
-    }
-    nbr_metric_spec::blank()
-}
-
-// The place of a held parent, the blank one for none.
-pub fn place_of(parent: Parent, places: [Place; 32]) -> Place
-    ensures { λ r. ⌜ r ≡ heldPlace parent places ⌝ }
+// Whether a parent is held.
+pub fn mark_of(parent: Parent) -> bool
+    ensures { λ r. ⌜ r ≡ markOf parent ⌝ }
 {
     match parent {
-        Parent::Held(id) => place_at(places, find(places, 0, id)),
-        Parent::None => nbr_metric_spec::blank(),
+        Parent::Held(_) => true,
+        Parent::None => false,
+    }
+}
+
+// The held parent's identifier, 0 for none.
+pub fn id_of(parent: Parent) -> u64
+    ensures { λ r. ⌜ r ≡ idOf parent ⌝ }
+{
+    match parent {
+        Parent::Held(id) => id,
+        Parent::None => 0,
     }
 }
 

@@ -1,6 +1,5 @@
 // The choice of the parent between the held one and the best one. The rules are those of docs/RULES.md, Neighbours.
-use crate::best_place::best_offer;
-use crate::held_parent::place_of;
+use crate::best_place::survey;
 use nbr_metric::offer;
 use nbr_metric_spec::INFINITE_RANK;
 use nbr_metric_spec::NO_OFFER;
@@ -9,11 +8,12 @@ use nbr_table_spec::Choice;
 use nbr_table_spec::HYSTERESIS;
 use nbr_table_spec::Offer;
 use nbr_table_spec::Parent;
+use nbr_table_spec::Settlement;
 ghost use mathlib.Core.Path.{_≡_};
 ghost use Prim.Native.Nat.{_<_};
 ghost use Rattle.nbr_table_spec.specs.declared.Parent.the-variants.{Held};
-ghost use Rattle.nbr_table_spec.specs.Places.{best};
-ghost use Rattle.nbr_table_spec.specs.Calls.{choice, chosen, heldPlace};
+ghost use Rattle.nbr_table_spec.specs.Calls.{choice as choiceWith};
+ghost use Rattle.nbr_table_spec.specs.Offers.{settlement};
 
 pub mod best_place;
 pub mod held_parent;
@@ -21,7 +21,7 @@ pub mod held_parent;
 // The neighbour of an offer becomes the parent.
 fn take(taken: Offer) -> Choice
     requires { ⌜ taken .cost < 65535 ⌝ }
-    ensures { λ r. ⌜ r ≡ choice (Held (taken .id)) (taken .cost) ⌝ }
+    ensures { λ r. ⌜ r ≡ choiceWith (Held (taken .id)) (taken .cost) ⌝ }
 {
     Choice {
         parent: Parent::Held(taken.id),
@@ -29,26 +29,36 @@ fn take(taken: Offer) -> Choice
     }
 }
 
-// The parent that is held from now on, and the own rank.
-pub fn settle(places: [Place; 32], parent: Parent) -> Choice
-    ensures { λ r. ⌜ r ≡ chosen parent (heldPlace parent places) (best places) ⌝ }
+// The parent that is held from now on and the own rank, with the place of the parent that was held.
+pub fn settle(places: [Place; 32], parent: Parent) -> Settlement
+    ensures { λ r. ⌜ r ≡ settlement places parent ⌝ }
 {
-    let lowest = best_offer(places);
-    let held = offer(place_of(parent, places));
-    if lowest.cost < NO_OFFER {
-        if held < NO_OFFER {
-            if lowest.cost + HYSTERESIS < held {
-                return take(lowest);
+    let found = survey(places, parent);
+    let best = found.best;
+    let held = found.held;
+    let cost = offer(held);
+    if best.cost < NO_OFFER {
+        if cost < NO_OFFER {
+            if best.cost + HYSTERESIS < cost {
+                return Settlement {
+                    choice: take(best),
+                    held,
+                };
             }
-            return Choice {
+            let kept = Choice {
                 parent,
-                rank: held as u16,
+                rank: cost as u16,
             };
+            return Settlement { choice: kept, held };
         }
-        return take(lowest);
+        return Settlement {
+            choice: take(best),
+            held,
+        };
     }
-    Choice {
+    let none = Choice {
         parent: Parent::None,
         rank: INFINITE_RANK,
-    }
+    };
+    Settlement { choice: none, held }
 }

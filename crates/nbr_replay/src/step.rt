@@ -74,12 +74,13 @@ pub(crate) fn step(
             visit: unseen(),
         };
     }
-    let choice = settle(places, parent);
-    let chosen = choice.parent;
+    let settlement = settle(places, parent);
+    let choice = settlement.choice;
+    let left = choice.parent;
     Step {
         at: PLACES,
         place: nbr_metric_spec::blank(),
-        parent: chosen,
-        visit: seen(places, parent, chosen),
+        parent: left,
+        visit: seen(settlement.held, parent, choice),
     }
 }

@@ -1,15 +1,17 @@
 // What one evaluation shows to the claim that parents do not flap.
 use nbr_metric::path_cost;
 use nbr_metric_spec::Place;
-use nbr_parent::held_parent::place_of;
+use nbr_parent::held_parent::mark_of;
 use nbr_parent::held_parent::same;
 use nbr_replay_spec::Visit;
+use nbr_table_spec::Choice;
 use nbr_table_spec::Parent;
 ghost use mathlib.Core.Path.{_≡_};
 ghost use mathlib.Core.Bool.{cond};
 ghost use Prim.Native.Nat.{_<_, _≤_, _^_};
-ghost use Rattle.nbr_table_spec.specs.Calls.{sameParent};
-ghost use Rattle.nbr_replay_spec.specs.Visit.{visited};
+ghost use Rattle.nbr_table_spec.specs.Calls.{markOf, sameParent};
+ghost use Rattle.octets_spec.specs.Choice.{ifOn};
+ghost use Rattle.nbr_replay_spec.specs.Tally.{shown};
 
 // 1 where the held parents differ, else 0.
 fn change(before: Parent, after: Parent) -> u32
@@ -22,17 +24,27 @@ fn change(before: Parent, after: Parent) -> u32
     1
 }
 
-// What an evaluation shows that found one parent held and left another, with the same places.
-pub fn seen(places: [Place; 32], before: Parent, after: Parent) -> Visit
-    ensures value { λ r. ⌜ r ≡ visited (record { places = places; parent = before }) (record { places = places; parent = after }) ⌝ }
+// The held parent's cost after an evaluation: the own rank, 0 for none.
+fn exit_of(choice: Choice) -> u32
+    ensures { λ r. ⌜ r ≡ ifOn (markOf (choice .parent)) (choice .rank) 0 ⌝ }
+{
+    let left = choice.parent;
+    if mark_of(left) {
+        return choice.rank as u32;
+    }
+    0
+}
+
+// What an evaluation shows that found a parent held, at this place, and made this choice.
+pub fn seen(held: Place, before: Parent, choice: Choice) -> Visit
+    ensures value { λ r. ⌜ r ≡ shown held before choice ⌝ }
     ensures bound { λ r. ⌜ (r .change ≤ 1) × (r .entry < 2 ^ 30) ⌝ }
 {
-    let held = place_of(before, places);
-    let left = place_of(after, places);
+    let after = choice.parent;
     Visit {
         change: change(before, after),
         entry: path_cost(held),
-        exit: path_cost(left),
+        exit: exit_of(choice),
         eligible: nbr_metric::eligible(held),
     }
 }

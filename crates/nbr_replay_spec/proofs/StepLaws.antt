@@ -2,25 +2,30 @@
 use Prim.Native.Nat.{ℕ, _+_, _-_, _<_, _≤_, _^_}
 use native.Mathlib.Omega.{arith}
 use mathlib.Core.Path.{_≡_, refl, sym, ap, subst, _∙_}
-use mathlib.Core.Bool.{Bool, true, false, _&&_}
+use mathlib.Core.Bool.{Bool, true, false, cond, _&&_}
 use mathlib.Core.List.{List}
+use mathlib.Core.Logic.{⊎-elim}
 use lib.ListN.{length, set}
 use lib.Dec.{eqb}
 use borrow.Author.Tests.{ne-eqb}
 use Rattle.octets_spec.specs.Choice.{ifEq, ifLt, ifOn}
 use Rattle.octets_spec.proofs.ChoiceLaws.{by-lt, choices}
 use Rattle.nbr_metric_spec.specs.declared.Place.{Place}
-use Rattle.nbr_metric_spec.specs.Metric.{blank}
+use Rattle.nbr_metric_spec.specs.Metric.{blank, eligible, increment, pathCost}
 use Rattle.nbr_table_spec.specs.Places.{best}
 use Rattle.nbr_table_spec.specs.declared.Answer.{Answer}
 use Rattle.nbr_table_spec.specs.declared.Change.{Change}
 use Rattle.nbr_table_spec.specs.declared.Choice.{Choice}
 use Rattle.nbr_table_spec.specs.declared.Parent.{Parent}
+use Rattle.nbr_table_spec.specs.declared.Parent.the-variants.{None, Held}
+use Rattle.nbr_table_spec.specs.declared.Settlement.{Settlement}
 use Rattle.nbr_table_spec.specs.declared.Table.{Table}
-use Rattle.nbr_table_spec.specs.Calls.{broken, chosen, evaluated, heldPlace, withParent, without}
+use Rattle.nbr_table_spec.specs.Calls.{broken, chosen, evaluated, held, heldCost, heldPlace, markOf, sameParent, withParent, without}
+use Rattle.nbr_table_spec.specs.Offers.{settlement}
 use Rattle.nbr_table_spec.specs.Stores.{advertising, forgetting, reporting}
 use Rattle.nbr_table_spec.proofs.CallLaws.{place-out}
 use Rattle.nbr_table_spec.proofs.StoreLaws.{advertised-by, forgotten-by, reported-by}
+use Rattle.nbr_soundness_spec.proofs.Chosen.{own-rank}
 use Rattle.nbr_stability_spec.specs.Stability.{Call, after}
 use Rattle.nbr_stability_spec.specs.Stability.Call.{Advertise, Report, Forget, Evaluate}
 use Rattle.nbr_replay_spec.specs.Log.{call}
@@ -28,7 +33,16 @@ use Rattle.nbr_replay_spec.specs.declared.Counts.{Counts}
 use Rattle.nbr_replay_spec.specs.declared.Step.{Step}
 use Rattle.nbr_replay_spec.specs.declared.Visit.{Visit}
 use Rattle.nbr_replay_spec.specs.Visit.{visited}
-use Rattle.nbr_replay_spec.specs.Tally.{IsStep, OneMore, counted, noVisit, noted, stepped}
+use Rattle.nbr_replay_spec.specs.Tally.{IsStep, OneMore, counted, noVisit, noted, shown, stepped}
+
+-- the cost on exit: none, and that of a held parent
+no-exit : (p : Parent) (rank : ℕ) (ps : List Place) → p ≡ None → ifOn (markOf p) rank 0 ≡ heldCost (record { places = ps; parent = p })
+unfolding markOf heldPlace pathCost increment ifOn ifEq
+no-exit p rank ps e = rw e
+
+an-exit : (p : Parent) (rank n : ℕ) → p ≡ Held n → ifOn (markOf p) rank 0 ≡ rank
+unfolding markOf ifOn
+an-exit p rank n e = rw e
 
 -- ---- the kinds of calls
 module _ (ps : List Place) (q : Parent) (kind n value flag : ℕ) (b : broken (record { places = ps; parent = q }) ≡ false) (l : length ps ≡ 32) where
@@ -84,13 +98,29 @@ module _ (ps : List Place) (q : Parent) (kind n value flag : ℕ) (b : broken (r
     unfolding after evaluated ifOn
     evaluated-leaves c e = rw (after, b) (ap (λ (z : Choice). withParent t (z .parent)) e)
 
-    pub step-evaluate : (c : Choice) (z : Place) (v : Visit) → c ≡ chosen q (heldPlace q ps) (best ps) → z ≡ blank → v ≡ visited (record { places = ps; parent = q }) (record { places = ps; parent = c .parent }) → v .change ≤ 1 → v .entry < 2 ^ 30
-        → IsStep t kind (call kind n value flag) (record { at = 32; place = z; parent = c .parent; visit = v })
-    step-evaluate c z v e a w f g =
+    -- what an evaluation shows: the own rank is the cost on exit
+    evaluated-shows : (c : Choice) → c ≡ chosen q (heldPlace q ps) (best ps) → shown (heldPlace q ps) q c ≡ visited t (after t Evaluate)
+    unfolding after evaluated ifOn
+    evaluated-shows c e =
         let u = evaluated-leaves c e in
+        let r : evaluated t .rank ≡ c .rank = rw b (ap (λ (z : Choice). z .rank) (sym e)) in
+        let v : evaluated t .table ≡ record { places = ps; parent = c .parent } = sym u in
+        let x : ifOn (markOf (c .parent)) (c .rank) 0 ≡ heldCost (record { places = ps; parent = c .parent }) =
+        ⊎-elim
+        (λ n. no-exit (c .parent) (c .rank) ps (sym (ap (λ (z : Table). z .parent) v) ∙ n .0))
+        (λ n.
+            let k : c .parent ≡ Held (held (evaluated t .table) .id) = sym (ap (λ (z : Table). z .parent) v) ∙ n .0 in
+            an-exit (c .parent) (c .rank) _ k ∙ sym r ∙ n .2 ∙ ap heldCost v) (own-rank t b) in
+        (λ i. record { change = cond (sameParent q (c .parent)) 0 1; entry = pathCost (heldPlace q ps); exit = x i; eligible = eligible (heldPlace q ps) }) ∙ ap (visited t) u
+
+    pub step-evaluate : (m : Settlement) (z : Place) (v : Visit) → m ≡ settlement ps q → z ≡ blank → v ≡ shown (m .held) q (m .choice) → v .change ≤ 1 → v .entry < 2 ^ 30
+        → IsStep t kind (call kind n value flag) (record { at = 32; place = z; parent = m .choice .parent; visit = v })
+    step-evaluate m z v e a w f g =
+        let d : m .choice ≡ chosen q (heldPlace q ps) (best ps) = ap (λ (y : Settlement). y .choice) e in
+        let u = evaluated-leaves (m .choice) d in
         record {
-          leaves = sym (place-out (record { places = ps; parent = c .parent }) 32 z l (omega arith)) ∙ u ∙ ap (after t) (sym is-evaluate);
-          shows = λ m. w ∙ ap (visited t) (u ∙ ap (after t) (sym is-evaluate));
+          leaves = sym (place-out (record { places = ps; parent = m .choice .parent }) 32 z l (omega arith)) ∙ u ∙ ap (after t) (sym is-evaluate);
+          shows = λ k. w ∙ ap (λ (y : Place). shown y q (m .choice)) (ap (λ (y : Settlement). y .held) e) ∙ evaluated-shows (m .choice) d ∙ ap (λ (y : Call). visited t (after t y)) (sym is-evaluate);
           change = f;
           entry = g;
         }

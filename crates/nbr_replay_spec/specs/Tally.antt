@@ -2,11 +2,16 @@
 -- Only contracts of functions that stay in the crate nbr_replay cite it. Assumes nothing.
 use Prim.Native.Nat.{ℕ, _+_, _-_, _<_, _≤_, _^_}
 use mathlib.Core.Path.{_≡_}
-use mathlib.Core.Bool.{true, false, _&&_}
+use mathlib.Core.Bool.{true, false, cond, _&&_}
 use mathlib.Core.List.{List}
 use lib.ListN.{length, set}
-use Rattle.octets_spec.specs.Choice.{ifEq, ifLt}
+use Rattle.octets_spec.specs.Choice.{ifEq, ifLt, ifOn}
+use Rattle.nbr_metric_spec.specs.declared.Place.{Place}
+use Rattle.nbr_metric_spec.specs.Metric.{eligible, pathCost}
+use Rattle.nbr_table_spec.specs.declared.Choice.{Choice}
+use Rattle.nbr_table_spec.specs.declared.Parent.{Parent}
 use Rattle.nbr_table_spec.specs.declared.Table.{Table}
+use Rattle.nbr_table_spec.specs.Calls.{markOf, sameParent}
 use Rattle.nbr_stability_spec.specs.Stability.{Call, after, changes, eachEligible, evaluations, firstCost, lastCost, rises}
 use Rattle.nbr_replay_spec.specs.declared.Counts.{Counts}
 use Rattle.nbr_replay_spec.specs.declared.Step.{Step}
@@ -48,6 +53,16 @@ counted kind counts visit = ifLt kind 3 counts (noted counts visit)
 -- what a row shows that is no evaluation
 abbrev pub noVisit : Visit
 noVisit = record { change = 0; entry = 0; exit = 0; eligible = false }
+
+-- what an evaluation shows, from the place of the parent that was held, that parent and the choice: the cost on exit is the own rank
+abbrev pub shown : Place → Parent → Choice → Visit
+shown held parent choice =
+    record {
+      change = cond (sameParent parent (choice .parent)) 0 1;
+      entry = pathCost held;
+      exit = ifOn (markOf (choice .parent)) (choice .rank) 0;
+      eligible = eligible held;
+    }
 
 -- the table that a row leaves
 abbrev pub stepped : Table → Step → Table

@@ -1,41 +1,56 @@
 // Whether a table breaks a rule, which every call asks first. The rules are those of docs/RULES.md, Neighbours.
-use crate::place_limits::any_twice;
-use crate::place_limits::any_unfit;
-use crate::search::find;
+use crate::place_limits::is_unfit;
 use nbr_metric_spec::Place;
 use nbr_table_spec::PLACES;
 use nbr_table_spec::Parent;
 ghost use mathlib.Core.Path.{_≡_};
-ghost use Rattle.nbr_table_spec.specs.Calls.{broken, parentMissing};
+ghost use Prim.Native.Nat.{_≤_};
+ghost use Rattle.nbr_table_spec.specs.Calls.{broken};
+ghost use Rattle.nbr_table_spec.specs.Scan.{among};
 
 pub mod place_limits;
 pub mod search;
 pub mod table_store;
 
-// Whether a held parent is not among the places in use.
-fn is_parent_missing(parent: Parent, places: [Place; 32]) -> bool
-    ensures { λ r. ⌜ r ≡ parentMissing parent places ⌝ }
+// Whether an identifier is one of the first so many. No early exit, so that several are compared at once.
+fn stands(ids: &[u64; 32], count: usize, id: u64) -> bool
+    requires { ⌜ count ≤ 32 ⌝ }
+    ensures { λ r. ⌜ r ≡ among id count (now (ids .entry)) ⌝ }
 {
-    match parent {
-        Parent::Held(id) => {
-            if find(places, 0, id) < PLACES {
-                return false;
-            }
-            true
-        }
-        Parent::None => false,
+    let mut found = false;
+    let mut j = 0;
+    while j < count {
+        found = found | (id == ids[j]);
+        j += 1;
     }
+    found
 }
 
-// Whether the table of these places and this held parent breaks a rule.
+// Whether the table of these places and this held parent breaks a rule: one walk over the places, which gathers the identifiers
+// in use.
 pub fn is_broken(places: [Place; 32], parent: Parent) -> bool
     ensures { λ r. ⌜ r ≡ broken (record { places = places; parent = parent }) ⌝ }
 {
-    if any_unfit(places) {
-        return true;
+    let mut ids = [0; 32];
+    let mut count = 0;
+    let mut i = 0;
+    while i < PLACES {
+        let place = places[i];
+        i += 1;
+        if is_unfit(place) {
+            return true;
+        }
+        if place.used {
+            if stands(&ids, count, place.id) {
+                return true;
+            }
+            ids[count] = place.id;
+            count += 1;
+            continue;
+        }
     }
-    if any_twice(places) {
-        return true;
+    match parent {
+        Parent::Held(id) => !stands(&ids, count, id),
+        Parent::None => false,
     }
-    is_parent_missing(parent, places)
 }

@@ -23,7 +23,7 @@ use Rattle.nbr_table_spec.specs.declared.Answer.{Answer}
 use Rattle.nbr_table_spec.specs.declared.Choice.{Choice}
 use Rattle.nbr_table_spec.specs.declared.Evaluation.{Evaluation}
 use Rattle.nbr_table_spec.specs.Changes.{attempted, newcomer, withCounters, withRank}
-use Rattle.nbr_table_spec.specs.Calls.{advertised, answer, broken, choice, choiceOf, chosen, emptyTable, evaluated, evaluation, forgotten, held, heldPlace, parentMissing, reported, sameParent, settled, withParent, withPlaces, without}
+use Rattle.nbr_table_spec.specs.Calls.{advertised, answer, broken, choice, choiceOf, chosen, emptyTable, evaluated, evaluation, forgotten, held, heldPlace, idOf, markOf, parentMissing, reported, sameParent, settled, withParent, withPlaces, without}
 
 -- ---- what a place becomes
 module _ (p : Place) (k : ℕ) (ok : Bool) (more : ℕ) (q : Place) (e : more ≡ cond ok 1 0) where
@@ -41,34 +41,6 @@ newcomer-is n r b e = ap (λ (z : Place). record { id = n; rank = r; attempts = 
 -- ---- a table that breaks a rule
 pub empty-is : (b : Place) → b ≡ blank → _≡_ {A = Table} (record { places = replicate 32 b; parent = None }) emptyTable
 empty-is b e = ap (λ (z : Place). record { places = replicate 32 z; parent = None }) e
-
-module _ (q : Parent) (ps : List Place) where
-  pub missing-none : q ≡ None → false ≡ parentMissing q ps
-  unfolding parentMissing
-  missing-none e = rw e
-
-  module _ (n i : ℕ) (e : q ≡ Held n) (s : i ≡ firstFrom (named n) 0 ps) (l : length ps ≡ 32) where
-    pub missing-known : i < 32 → false ≡ parentMissing q ps
-    unfolding parentMissing
-    missing-known h = rw (e, some-there (named n) ps i 32 s l h)
-
-    pub missing-unknown : 32 ≤ i → true ≡ parentMissing q ps
-    unfolding parentMissing
-    missing-unknown h = rw (e, some-missing (named n) ps i 32 s l h)
-
-module _ (t : Table) (x : Bool) where
-  pub broken-unfit : x ≡ some unfit (t .places) → x ≡ true → true ≡ broken t
-  unfolding broken
-  broken-unfit e u = simp (← e, u)
-
-  module _ (y : Bool) (e : x ≡ some unfit (t .places)) (u : x ≡ false) (f : y ≡ twice (t .places)) where
-    pub broken-twice : y ≡ true → true ≡ broken t
-    unfolding broken
-    broken-twice v = simp (← e, u, ← f, v)
-
-    pub broken-parent : (z : Bool) → y ≡ false → z ≡ parentMissing (t .parent) (t .places) → z ≡ broken t
-    unfolding broken
-    broken-parent z v g = simp (← e, u, ← f, v, g)
 
 -- a place that is not unfit is within its limits
 module _ (p : Place) (x : Bool) (e : x ≡ unfit p) (u : x ≡ false) where
@@ -232,6 +204,24 @@ module _ (t : Table) (x : Bool) (e : x ≡ broken t) where
       ap (λ (y : Table). evaluation 0 y (c .rank)) w ∙ ap (settled t) k in
       search choices
 
+-- ---- the held parent
+module _ (q : Parent) where
+  pub mark-held : (id : ℕ) → q ≡ Held id → true ≡ markOf q
+  unfolding markOf
+  mark-held id e = rw e
+
+  pub mark-none : q ≡ None → false ≡ markOf q
+  unfolding markOf
+  mark-none e = rw e
+
+  pub id-held : (id : ℕ) → q ≡ Held id → id ≡ idOf q
+  unfolding idOf
+  id-held id e = rw e
+
+  pub id-none : q ≡ None → 0 ≡ idOf q
+  unfolding idOf
+  id-none e = rw e
+
 -- ---- two held parents
 module _ (q p : Parent) where
   pub same-none : q ≡ None → p ≡ None → true ≡ sameParent q p
@@ -257,12 +247,8 @@ place-out t i p l h = ap (withPlaces t) (sym (set-out (t .places) i p (omega ari
 -- one set for each crate of functions over a table
 pub ruleset emptyWays = (empty-is)
 
-pub ruleset checkWays = (length-mapped, missing-none, missing-known, missing-unknown, broken-unfit, broken-twice, broken-parent)
-
 pub ruleset storeWays = (length-mapped, place-out)
 
 pub ruleset heldWays = (length-mapped, held-none, held-at, at-out)
 
-pub ruleset evaluateWays = (evaluated-broken, evaluated-done)
-
-pub ruleset sameWays = (same-none, same-gained, same-lost, same-held)
+pub ruleset sameWays = (mark-held, mark-none, id-held, id-none, same-none, same-gained, same-lost, same-held)

@@ -99,19 +99,6 @@ pub first-end : (f : Place → Bool) (ps : List Place) (i n w : ℕ) → length 
 unfolding first firstFrom
 first-end f ps i n w e l h = let m : length ps ≤ i = omega arith in let g : i + 0 ≡ w = rw (drop-of-length-le ps m) at h in omega arith
 
-module _ (ps : List Place) (i : ℕ) (w x : Bool) where
-  pub twice-next : i < length ps → twice (drop i ps) ≡ w → x ≡ (getD ps i blank .used && known (getD ps i blank .id) (drop (i + 1) ps)) → x ≡ false → twice (drop (i + 1) ps) ≡ w
-  unfolding twice
-  twice-next l h e u = let g = rw add-one at e in rw add-one (rw (drop-cons ps i blank l, ← g, u) at h)
-
-  pub twice-found : i < length ps → twice (drop i ps) ≡ w → x ≡ (getD ps i blank .used && known (getD ps i blank .id) (drop (i + 1) ps)) → x ≡ true → true ≡ w
-  unfolding twice
-  twice-found l h e u = let g = rw add-one at e in rw (drop-cons ps i blank l, ← g, u) at h
-
-pub twice-end : (ps : List Place) (i n : ℕ) (w : Bool) → length ps ≡ n → n ≤ i → twice (drop i ps) ≡ w → false ≡ w
-unfolding twice
-twice-end ps i n w e l h = let k : length ps ≤ i = omega arith in rw (drop-of-length-le ps k) at h
-
 -- ---- the best place
 module _ (b p : Place) (c d : ℕ) (e : c ≡ pathCost p) (f : d ≡ pathCost b) where
   pub nearer-cost : c < d → p ≡ nearer b p
@@ -202,20 +189,6 @@ module _ (f : Place → Bool) (ps : List Place) (i n : ℕ) (e₀ : i ≡ firstF
       subst (λ (k : ℕ). set ps k q ≡ changeFirst f g ps) (sym e)
       (subst (λ (z : Place). set ps (first f ps) z ≡ changeFirst f g ps) (sym (h ∙ ap (λ (k : ℕ). g (getD ps k blank)) e)) (set-first f g ps))
 
--- the same from a number on
-from-there : (f : Place → Bool) (ps : List Place) (from i n : ℕ) → i ≡ firstFrom f from ps → length ps ≡ n → ltb i n ≡ some f (drop from ps)
-unfolding firstFrom
-from-there f ps from i n e l =
-    by-lt i n (λ h. lt-ltb i n h ∙ sym (found f (drop from ps) (omega (arith, length-drop from ps))))
-    (λ h. le-ltb i n h ∙ sym (missing f (drop from ps) (omega (arith, length-drop from ps))))
-
-module _ (p : Place) (ps : List Place) (from : ℕ) where
-  pub again-used : (i n : ℕ) → p .used ≡ true → i ≡ firstFrom (named (p .id)) from ps → length ps ≡ n → ltb i n ≡ (p .used && known (p .id) (drop from ps))
-  again-used i n u e l = rw u (from-there (named (p .id)) ps from i n e l)
-
-  pub again-free : p .used ≡ false → false ≡ (p .used && known (p .id) (drop from ps))
-  again-free u = rw u
-
 -- where no place is so, none is at any number
 pub none-at : (f : Place → Bool) (ps : List Place) (i : ℕ) → f blank ≡ false → some f ps ≡ false → f (getD ps i blank) ≡ false
 unfolding some
@@ -233,4 +206,4 @@ fit-limits p e =
 -- one set for each crate of functions over places
 pub ruleset searchWays = (free-not, free-is, named-used, named-free, first-next, first-found, first-end)
 
-pub ruleset limitWays = (nonzero-id, nonzero-rank, nonzero-attempts, nonzero-acked, unfit-attempts, unfit-acked, unfit-used, unfit-free, some-next, some-found, some-end, twice-end)
+pub ruleset limitWays = (nonzero-id, nonzero-rank, nonzero-attempts, nonzero-acked, unfit-attempts, unfit-acked, unfit-used, unfit-free)

@@ -89,6 +89,16 @@ held t = heldPlace (t .parent) (t .places)
 abbrev pub heldCost : Table → ℕ
 heldCost t = pathCost (held t)
 
+-- whether a parent is held
+unfoldable pub markOf : Parent → Bool
+markOf None = false
+markOf (Held n) = true
+
+-- the held parent's identifier, 0 for none
+unfoldable pub idOf : Parent → ℕ
+idOf None = 0
+idOf (Held n) = n
+
 -- whether two held parents are the same
 unfoldable pub sameParent : Parent → Parent → Bool
 sameParent None None = true

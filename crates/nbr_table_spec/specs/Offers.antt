@@ -1,10 +1,18 @@
--- How the code goes about the best place: it keeps the lowest offer so far, a cost and an identifier, and no place. The best place
--- of the rules stands in Places.antt; proofs/OfferLaws.antt shows that both agree. Assumes nothing.
+-- How the code goes about an evaluation: one walk over the places keeps the lowest offer so far, a cost and an identifier, and looks
+-- for the held parent. The best place of the rules stands in Places.antt; proofs/OfferLaws.antt shows that both agree. Assumes nothing.
+use Prim.Native.Nat.{ℕ}
+use mathlib.Core.Bool.{false}
 use mathlib.Core.List.{List, [], _∷_}
-use Rattle.octets_spec.specs.Choice.{ifLt}
+use Rattle.octets_spec.specs.Choice.{ifLt, ifOn}
 use Rattle.nbr_metric_spec.specs.declared.Place.{Place}
 use Rattle.nbr_metric_spec.specs.Metric.{offer}
 use Rattle.nbr_table_spec.specs.declared.Offer.{Offer}
+use Rattle.nbr_table_spec.specs.declared.Parent.{Parent}
+use Rattle.nbr_table_spec.specs.declared.Settlement.{Settlement}
+use Rattle.nbr_table_spec.specs.declared.Sought.{Sought}
+use Rattle.nbr_table_spec.specs.declared.Survey.{Survey}
+use Rattle.nbr_table_spec.specs.Places.{best, named}
+use Rattle.nbr_table_spec.specs.Calls.{chosen, heldPlace}
 
 -- what a place offers
 abbrev pub offerOf : Place → Offer
@@ -19,3 +27,16 @@ lower kept other =
 unfoldable pub lowest : Offer → List Place → Offer
 lowest kept [] = kept
 lowest kept (place ∷ places) = lowest (lower kept (offerOf place)) places
+
+-- the held parent once one place more was looked at: the first place in use by it
+unfoldable pub sought : ℕ → Sought → Place → Sought
+sought id found place =
+    ifOn (found .missing) (ifOn (named id place) (record { missing = false; place = place }) found) found
+
+-- what one walk over the places finds
+abbrev pub surveyed : List Place → Parent → Survey
+surveyed places parent = record { best = offerOf (best places); held = heldPlace parent places }
+
+-- the choice, with the place of the parent that was held
+abbrev pub settlement : List Place → Parent → Settlement
+settlement places parent = record { choice = chosen parent (heldPlace parent places) (best places); held = heldPlace parent places }

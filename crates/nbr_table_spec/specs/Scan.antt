@@ -1,17 +1,12 @@
--- How the code looks for an identifier that stands twice: first among the identifiers alone, of all places, free or in use. Only
--- contracts of functions that stay in the crate nbr_table cite it. Assumes nothing.
-use Prim.Native.Nat.{ℕ, _<_, _≤_}
-use mathlib.Core.Path.{_≡_}
+-- How the code looks for what breaks a rule: one walk over the places that gathers the identifiers in use. Only contracts of functions
+-- that stay in the crate nbr_table cite it. Assumes nothing.
+use Prim.Native.Nat.{ℕ, zero, suc}
+use mathlib.Core.Bool.{Bool, false, _||_}
 use mathlib.Core.List.{List}
-use lib.ListN.{getD, length}
-use Rattle.nbr_metric_spec.specs.declared.Place.{Place}
-use Rattle.nbr_metric_spec.specs.Metric.{blank}
+use lib.ListN.{getD}
+use lib.Dec.{eqb}
 
--- the identifiers of 32 places, one after the other
-pub record Ids (ids : List ℕ) (places : List Place) : Type 0 where
-  pub long : length places ≡ 32
-  pub same : (j : ℕ) → j < 32 → getD ids j 0 ≡ getD places j blank .id
-
--- an identifier stands nowhere from a number on
-abbrev pub Nowhere : List ℕ → ℕ → ℕ → Type 0
-Nowhere ids from id = (j : ℕ) → from ≤ j → j < 32 → getD ids j 0 ≡ id → ⊥
+-- an identifier is one of the first so many of these
+unfoldable pub among : ℕ → ℕ → List ℕ → Bool
+among id zero ids = false
+among id (suc count) ids = among id count ids || eqb id (getD ids count 0)

@@ -54,6 +54,24 @@ pub struct Choice {
     pub rank: u16,
 }
 
+// The held parent on the way through the places: whether it is still looked for, and its place, blank until it is found.
+pub struct Sought {
+    pub missing: bool,
+    pub place: Place,
+}
+
+// What one walk over the places finds: the lowest offer, and the place of the held parent, the blank one for none.
+pub struct Survey {
+    pub best: Offer,
+    pub held: Place,
+}
+
+// A choice with the place of the parent that was held before it, the blank one for none.
+pub struct Settlement {
+    pub choice: Choice,
+    pub held: Place,
+}
+
 // What an evaluation gives back: also the own rank, 65535 where there is no parent and where it is refused.
 pub struct Evaluation {
     pub number: u8,

@@ -4,11 +4,8 @@ use borrow.Author.Needs.{needs}
 use Rattle.nbr_parent.proofs.settle.Statement.{statement}
 use Rattle.nbr_parent.proofs.settle.Tie as tie
 
-best-offer-requires : tie.Need-best-offer-requires
-best-offer-requires c κs = search needs
-
-place-of-requires : tie.Need-place-of-requires
-place-of-requires c κs = search needs
+survey-requires : tie.Need-survey-requires
+survey-requires c κs = search needs
 
 offer-requires : tie.Need-offer-requires
 offer-requires c κs = search needs
@@ -22,8 +19,8 @@ take-requires c κs = search needs
 returns : tie.Need-returns
 returns c = search (needs, settleWays)
 
-cast-t10 : tie.Need-cast-t10
-cast-t10 c = search needs
+cast-t14 : tie.Need-cast-t14
+cast-t14 c = search needs
 
 returns-2 : tie.Need-returns-2
 returns-2 c = search (needs, settleWays)
@@ -41,13 +38,12 @@ pub settle-spec : {M : Type 1} → statement M
 settle-spec =
     tie.close
     (tie.spec
-    best-offer-requires
-    place-of-requires
+    survey-requires
     offer-requires
     add-if3
     take-requires
     returns
-    cast-t10
+    cast-t14
     returns-2
     take-requires-2
     returns-3

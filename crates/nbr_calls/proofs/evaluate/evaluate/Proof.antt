@@ -1,5 +1,5 @@
 -- `nbr_calls::evaluate::evaluate` meets its contract. Assumes nothing.
-use Rattle.nbr_table_spec.proofs.CallLaws.{evaluateWays}
+use Rattle.nbr_table_spec.proofs.OfferLaws.{evaluateWays}
 use borrow.Author.Needs.{needs}
 use Rattle.nbr_calls.proofs.evaluate.evaluate.Statement.{statement}
 use Rattle.nbr_calls.proofs.evaluate.evaluate.Tie as tie
