@@ -6,21 +6,20 @@ ghost use lib.ListN.{take};
 ghost use Rattle.octets_spec.specs.Choice.{ifOn};
 ghost use Rattle.octets_spec.specs.Number.{leBytes, beBytes, stored};
 ghost use Rattle.eb_write_spec.specs.Frame.{ietfGroup, joiningSubtype, groupDescriptor, flag, joiningWord, joiningSize, joiningBytes};
+use crate::BYTE_2;
 use eb_record_spec::JoiningInformation;
 
-// The descriptor of the IETF group with length 0, and the subtype of joining information in it.
+// The descriptor of the IETF group, with length 0.
 const IETF_GROUP: u64 = 0xA800;
-
+// The subtype of joining information in it.
 const JOINING_SUBTYPE: u64 = 2;
-// What a number is multiplied by to stand behind two bytes.
-const BYTE_2: u64 = 0x1_0000;
-// What the flags, the proxy priority and the rank priority are multiplied by in their word.
+// R in the word of flags and priorities.
 const ROUTER: u64 = 0x8000_0000;
-
+// P in the word of flags and priorities.
 const PROXIED: u64 = 0x4000_0000;
-
+// The lowest bit of the proxy priority in that word.
 const PROXY_PRIORITY: u64 = 0x10_0000;
-
+// The lowest bit of the rank priority in that word.
 const RANK_PRIORITY: u64 = 0x100;
 
 fn flag_of(set: bool) -> u64

@@ -10,8 +10,10 @@ use eb_record_spec::Beacon;
 pub mod joining;
 pub mod mac_header;
 
-// The descriptor of header termination 1, with length 0.
+// The descriptor of header termination 1, whose length is 0.
 const HEADER_TERMINATION_1: u64 = 0x3F00;
+// What a number is multiplied by to stand behind two bytes.
+const BYTE_2: u64 = 0x1_0000;
 
 // The bytes of the header list's terminator and of the MLME group, in which sixteen links at most are written.
 fn before_joining(beacon: Beacon) -> usize

@@ -4,30 +4,28 @@ ghost use Prim.Native.Nat.{_≤_, _<_};
 ghost use lib.ListN.{length};
 ghost use Rattle.octets_spec.specs.Number.{leBytes, stored};
 ghost use Rattle.eb_write_spec.specs.Frame.{suppressedBit, sequenceBytes, sourceMode, sourceBytes, controlWord, macHeaderBytes};
+use crate::BYTE_2;
 use eb_record_spec::Address;
 use eb_record_spec::SequenceNumber;
 
-// Frame control: the bits that are always set (PAN ID compression, elements present, destination short, version 2), and what the bit of a
-// suppressed sequence number and the source's addressing mode are multiplied by.
+// Frame control: PAN ID compression is set.
 const PAN_ID_COMPRESSION: u64 = 0x40;
-
+// Frame control: the bit of a suppressed sequence number.
 const SUPPRESSED: u64 = 0x100;
-
+// Frame control: elements are present.
 const ELEMENTS_PRESENT: u64 = 0x200;
-
+// Frame control: the destination is short.
 const DESTINATION_SHORT: u64 = 0x800;
-
+// Frame control: the version is 2.
 const VERSION_2: u64 = 0x2000;
-
+// Frame control: the lowest bit of the source's addressing mode.
 const SOURCE_MODE: u64 = 0x4000;
-// The source's addressing modes.
+// The addressing mode of a short source.
 const SHORT: u64 = 2;
-
+// The addressing mode of an extended source.
 const EXTENDED: u64 = 3;
-// The destination.
+// The destination: all nodes.
 const BROADCAST: u64 = 0xFFFF;
-// What a number is multiplied by to stand behind two bytes.
-const BYTE_2: u64 = 0x1_0000;
 
 fn suppressed_bit(sequence: SequenceNumber) -> u64
     ensures { λ r. ⌜ (r ≡ suppressedBit sequence) × (r ≤ 1) ⌝ }

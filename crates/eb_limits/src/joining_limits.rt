@@ -4,13 +4,12 @@ ghost use Prim.Native.Nat.{_≤_};
 ghost use lib.ListN.{drop};
 ghost use Rattle.eb_write_spec.specs.Limits.{allBelow, addressFits, presentFits, absentFits, joiningFits};
 ghost use Rattle.eb_write_spec.specs.Range.{allFrom, below};
+use crate::OVER_1_BYTE;
 use eb_record_spec::JoiningInformation;
 
-// The first numbers that a byte, 7 bits and 12 bits do not hold.
-const OVER_1_BYTE: u16 = 0x100;
-
+// The first number that 7 bits do not hold.
 const OVER_7_BITS: u8 = 0x80;
-
+// The first number that 12 bits do not hold.
 const OVER_12_BITS: u16 = 0x1000;
 
 // The address fits by its type; without P it is unused.

@@ -16,18 +16,20 @@ pub mod joining_limits;
 pub mod sizes;
 pub mod slotframe_limits;
 
-// The first number that two, three and five bytes do not hold.
+// The first number that one byte does not hold.
+const OVER_1_BYTE: u16 = 0x100;
+// The first number that two bytes do not hold.
 const OVER_2_BYTES: u32 = 0x1_0000;
-
+// The first number that three bytes do not hold.
 const OVER_3_BYTES: u32 = 0x100_0000;
-
+// The first number that five bytes do not hold.
 const OVER_5_BYTES: u64 = 0x100_0000_0000;
 
 // What a variant holds fits by its type.
 fn in_one_byte(number: u8) -> bool
     ensures { λ r. ⌜ r ≡ ltb number 256 ⌝ }
 {
-    (number as u16) < 256
+    (number as u16) < OVER_1_BYTE
 }
 
 fn in_two_bytes(number: u16) -> bool

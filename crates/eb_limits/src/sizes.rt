@@ -6,18 +6,17 @@ ghost use lib.ListN.{length, drop};
 ghost use Rattle.octets_spec.specs.Choice.{ifOn};
 ghost use Rattle.eb_write_spec.specs.Frame.{sequenceBytes, sourceBytes, lastWidth, templateSize, groupSize, joiningSize, frameOf, frameLength};
 ghost use Rattle.eb_write_spec.specs.Limits.{fits};
+use crate::OVER_2_BYTES;
 use eb_record_spec::Address;
 use eb_record_spec::Beacon;
 use eb_record_spec::JoiningInformation;
 use eb_record_spec::SequenceNumber;
 use eb_record_spec::TimeslotTemplate;
 
-// The bytes of an address of either kind.
+// The bytes of a short address.
 const SHORT_SIZE: usize = 2;
-
+// The bytes of an extended address.
 const EXTENDED_SIZE: usize = 8;
-// The first number that two bytes do not hold.
-const OVER_2_BYTES: u32 = 0x1_0000;
 
 // The bytes of a sequence number.
 pub fn sequence_size(sequence: SequenceNumber) -> usize

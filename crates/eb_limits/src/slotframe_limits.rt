@@ -3,11 +3,9 @@ ghost use mathlib.Core.Path.{_≡_};
 ghost use Prim.Native.Nat.{_≤_};
 ghost use Rattle.eb_write_spec.specs.Limits.{linkFits, linkUnused, slotframeFits};
 ghost use Rattle.eb_write_spec.specs.Range.{allFrom};
+use crate::OVER_1_BYTE;
 use eb_record_spec::Link;
 use eb_record_spec::Slotframe;
-
-// The first number that one byte does not hold.
-const OVER_1_BYTE: u16 = 0x100;
 
 // The channel offset fits by its type.
 fn link_fits(link: Link, size: u16) -> bool

@@ -10,15 +10,15 @@ use eb_record_spec::TimeslotTemplate;
 pub mod slotframe;
 pub mod template;
 
-// Descriptors with the lengths that do not vary: the MLME group's with length 0, synchronization's with 6, hopping's with 1.
+// The descriptor of the MLME group, with length 0.
 const MLME_GROUP: u64 = 0x8800;
-
+// The descriptor of synchronization, whose length is 6.
 const SYNCHRONIZATION_DESCRIPTOR: u64 = 0x1A06;
-
+// The descriptor of hopping, whose length is 1.
 const HOPPING_DESCRIPTOR: u64 = 0xC801;
-// What a number is multiplied by to stand behind two bytes, and behind seven.
+// What a number is multiplied by to stand behind two bytes.
 const BYTE_2: u64 = 0x1_0000;
-
+// What a number is multiplied by to stand behind seven bytes.
 const BYTE_7: u64 = 0x100_0000_0000_0000;
 // The first number that five bytes do not hold.
 const OVER_5_BYTES: u64 = 0x100_0000_0000;

@@ -5,20 +5,19 @@ ghost use Prim.Native.Nat.{_+_, _*_, _≤_};
 ghost use lib.ListN.{take};
 ghost use Rattle.octets_spec.specs.Number.{leBytes, stored};
 ghost use Rattle.eb_write_spec.specs.Frame.{slotframeId, shortDescriptor, linkBytes, linksBytes, slotframeBytes};
+use crate::BYTE_2;
 use eb_record_spec::Link;
 use eb_record_spec::Slotframe;
 
-// The descriptor with the length of an element without links, and the slotframe count 1 behind it.
+// The descriptor of slotframe and link, with the length of an element without links.
 const SLOTFRAME_DESCRIPTOR: u64 = 0x1B05;
-
+// The slotframe count 1, behind two bytes.
 const ONE_SLOTFRAME: u64 = 0x1_0000;
-// What a number is multiplied by to stand behind so many bytes.
-const BYTE_2: u64 = 0x1_0000;
-
+// What a number is multiplied by to stand behind three bytes.
 const BYTE_3: u64 = 0x100_0000;
-
+// What a number is multiplied by to stand behind four bytes.
 const BYTE_4: u64 = 0x1_0000_0000;
-
+// What a number is multiplied by to stand behind six bytes.
 const BYTE_6: u64 = 0x1_0000_0000_0000;
 
 // A link as one number of five bytes: timeslot, channel offset, options.

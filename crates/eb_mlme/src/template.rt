@@ -3,12 +3,11 @@ ghost use mathlib.Core.Path.{_≡_};
 ghost use lib.ListN.{take, drop};
 ghost use Rattle.octets_spec.specs.Number.{stored};
 ghost use Rattle.eb_write_spec.specs.Frame.{numbersIn, lastWidth, timingsBytes, templateBytes};
+use crate::BYTE_2;
 use eb_record_spec::TimeslotTemplate;
 
-// The descriptor with length 0.
+// The descriptor of timeslot, with length 0.
 const TIMESLOT_DESCRIPTOR: u64 = 0x1C00;
-// What a number is multiplied by to stand behind two bytes.
-const BYTE_2: u64 = 0x1_0000;
 
 // The first ten timings, two bytes each.
 fn put_first_timings(buffer: &mut [u8], at: usize, timings: [u32; 12])
