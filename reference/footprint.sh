@@ -23,10 +23,12 @@ echo "|---|---|"
 nm -S -t d --size-sort --reverse-sort "$archive" 2>/dev/null | awk '
     $3 == "T" { exported[++outer] = "| `" $4 "` | " $2 + 0 " |"; sum += $2 }
     $3 == "t" { inner[++locals] = "| inside: `" $4 "` | " $2 + 0 " |"; sum += $2 }
-    $3 ~ /[rRdDbB]/ { data += $2 }
     END {
         for (i = 1; i <= outer; i++) print exported[i]
         for (i = 1; i <= locals; i++) print inner[i]
-        print "| all code | " sum + 0 " |"
-        print "| data | " data + 0 " |"
+        print "| all functions | " sum + 0 " |"
     }'
+size -A "$archive" | awk '
+    $1 ~ /^\.rodata/ { constants += $2 }
+    $1 ~ /^\.(data|bss)/ { variables += $2 }
+    END { print "| constants | " constants + 0 " |"; print "| variables | " variables + 0 " |" }'

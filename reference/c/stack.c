@@ -99,7 +99,7 @@ static const uint8_t house_form[] = {
     0xF1, 0x02, 0x03, 0x04, 0x05, 0x06, 0x07, 0x08, 0xAA, 0x00, 0xBB
 };
 
-/* A beacon in another form: an element that is skipped, groups of their own, another order, bytes behind the list. */
+/* A beacon in another form: an element that is skipped, six groups, another order, a byte behind the list. */
 static const uint8_t other_form[] = {
     0x40, 0xAB, 0x34, 0x12, 0xFF, 0xFF, 0x07, 0x00,                               /* MAC header */
     0x02, 0x0F, 0x00, 0x3F, 0x00, 0x3F,                                           /* time correction, termination 1 */
@@ -110,6 +110,17 @@ static const uint8_t other_form[] = {
     0x08, 0x88, 0x06, 0x1A, 0x00, 0x01, 0x00, 0x00, 0x00, 0x02,                   /* synchronization */
     0x00, 0xF8, 0xFF                                                              /* payload termination */
 };
+
+/* A MAC header and MLME groups of no bytes, as many as a frame can have; filled in before it is used. */
+static uint8_t groups[TESOLVAGNA_LONGEST_FRAME - 1] = {0x40, 0xAB, 0x34, 0x12, 0xFF, 0xFF, 0x07, 0x00, 0x00, 0x3F};
+
+static void fill_groups(void)
+{
+    size_t at;
+
+    for (at = 10; at < sizeof groups; at += 2)
+        groups[at + 1] = 0x88;
+}
 
 /* The deepest of the calls of a row. */
 static size_t deepest;
@@ -130,55 +141,52 @@ static void make(const char *what, void (*function)(void), const uint8_t *found,
     }
 }
 
-/* Prints a row: what the function writes below the call, its arguments on the stack, its answer if that does not come
- * back in registers, and all together. */
-static void row(const char *name, size_t arguments, size_t result)
+/* Prints a row: the function and its inputs, what it writes below the call, its arguments on the stack, its answer if
+ * that does not come back in registers, and all together. */
+static void row(const char *name, const char *input, size_t arguments, size_t result)
 {
     if (result <= 16)
         result = 0;
-    printf("| `tesolvagna_%s` | %zu | %zu | %zu | %zu |\n", name, deepest, arguments, result,
+    printf("| `tesolvagna_%s`%s | %zu | %zu | %zu | %zu |\n", name, input, deepest, arguments, result,
            deepest + arguments + result);
     deepest = 0;
 }
 
+/* Reading and looking for the network ID, also with as many groups as there can be: the reader of the list of groups
+ * and that of a group call each other, so that groups take stack. */
+static void frames(void (*function)(void), const char *name, const uint8_t *found, size_t result)
+{
+    frame = house_form;
+    frame_length = sizeof house_form;
+    make("house form", function, found, TESOLVAGNA_DONE);
+    frame_length = sizeof house_form - 1;
+    make("cut", function, found, TESOLVAGNA_CUT);
+    frame_length = 0;
+    make("empty", function, found, TESOLVAGNA_CUT);
+    row(name, ", frames as they are written", 0, result);
+    frame = other_form;
+    frame_length = sizeof other_form;
+    make("other form", function, found, TESOLVAGNA_DONE);
+    row(name, ", six groups", 0, result);
+    frame = groups;
+    frame_length = sizeof groups;
+    make("groups", function, found, TESOLVAGNA_MISSING_OR_TWICE);
+    row(name, ", 57 groups of no bytes", 0, result);
+}
+
 static void beacons(void)
 {
-    static const struct {
-        const char *name;
-        const uint8_t *frame;
-        size_t length;
-        uint8_t number;
-    } frames[] = {
-        {"house form", house_form, sizeof house_form, TESOLVAGNA_DONE},
-        {"cut", house_form, sizeof house_form - 1, TESOLVAGNA_CUT},
-        {"other form", other_form, sizeof other_form, TESOLVAGNA_DONE},
-        {"missing", other_form, sizeof other_form - 13, TESOLVAGNA_MISSING_OR_TWICE},
-        {"empty", NULL, 0, TESOLVAGNA_CUT},
-    };
-    size_t i;
+    fill_groups();
+    frames(call_beacon_read, "beacon_read", &reading.number, sizeof reading);
+    frames(call_beacon_network_id, "beacon_network_id", NULL, sizeof span);
 
-    for (i = 0; i < sizeof frames / sizeof *frames; i++) {
-        frame = frames[i].frame;
-        frame_length = frames[i].length;
-        make(frames[i].name, call_beacon_read, &reading.number, frames[i].number);
-        if (i == 0)
-            beacon = reading.beacon;
-    }
-    row("beacon_read", 0, sizeof reading);
-
+    beacon = tesolvagna_beacon_read(house_form, sizeof house_form).beacon;
     make("record", call_beacon_write, &written.number, TESOLVAGNA_DONE);
     beacon.slotframe.link_count = 16;
     make("sixteen links", call_beacon_write, &written.number, TESOLVAGNA_FRAME_TOO_LONG);
     beacon.slotframe.links[15].options = 256;
     make("options over 255", call_beacon_write, &written.number, TESOLVAGNA_OUT_OF_LIMITS);
-    row("beacon_write", sizeof beacon, sizeof written);
-
-    for (i = 0; i < sizeof frames / sizeof *frames; i++) {
-        frame = frames[i].frame;
-        frame_length = frames[i].length;
-        make(frames[i].name, call_beacon_network_id, NULL, 0);
-    }
-    row("beacon_network_id", 0, sizeof span);
+    row("beacon_write", "", sizeof beacon, sizeof written);
 }
 
 /* A full table with the first neighbour as parent; all are eligible. */
@@ -204,26 +212,26 @@ static void tables(void)
     static const uint16_t numbers[] = {300, 4, 0, 0, 256, 9, 0};
 
     make("empty", call_table_init, NULL, 0);
-    row("table_init", 0, sizeof table);
+    row("table_init", "", 0, sizeof table);
     make("new neighbour", call_table_advertise, &answer.number, TESOLVAGNA_DONE);
     fill_table();
     id = 31;
     make("known neighbour", call_table_advertise, &answer.number, TESOLVAGNA_DONE);
     id = 99;
     make("full table", call_table_advertise, &answer.number, TESOLVAGNA_TABLE_FULL);
-    row("table_advertise", sizeof table, sizeof answer);
+    row("table_advertise", "", sizeof table, sizeof answer);
     make("unknown neighbour", call_table_report, &answer.number, TESOLVAGNA_UNKNOWN_NEIGHBOUR);
     id = 31;
     make("report", call_table_report, &answer.number, TESOLVAGNA_DONE);
-    row("table_report", sizeof table, sizeof answer);
+    row("table_report", "", sizeof table, sizeof answer);
     make("forget", call_table_forget, &answer.number, TESOLVAGNA_DONE);
-    row("table_forget", sizeof table, sizeof answer);
+    row("table_forget", "", sizeof table, sizeof answer);
     make("evaluate", call_table_evaluate, &evaluation.number, TESOLVAGNA_DONE);
     table.neighbours[0].rank = 60000;
     make("evaluate, changed", call_table_evaluate, &evaluation.number, TESOLVAGNA_DONE);
     table.neighbours[31].id = 30;
     make("identifier twice", call_table_evaluate, &evaluation.number, TESOLVAGNA_OUT_OF_LIMITS);
-    row("table_evaluate", sizeof table, sizeof evaluation);
+    row("table_evaluate", "", sizeof table, sizeof evaluation);
 
     fill_table();
     kinds = every_kind;
@@ -235,7 +243,7 @@ static void tables(void)
     flags = every_kind;
     make("log with a flag over 1", call_table_replay, &replay.number, TESOLVAGNA_OUT_OF_LIMITS);
     /* With the place of the answer six numbers go in registers; the last three are on the stack. */
-    row("table_replay", sizeof table + 3 * sizeof(size_t), sizeof replay);
+    row("table_replay", "", sizeof table + 3 * sizeof(size_t), sizeof replay);
 }
 
 static void numbers(void)
@@ -247,13 +255,13 @@ static void numbers(void)
     make("sleep", call_slot_decide, &slot.number, TESOLVAGNA_DONE);
     beacon.slotframe.link_count = 17;
     make("17 links", call_slot_decide, &slot.number, TESOLVAGNA_OUT_OF_LIMITS);
-    row("slot_decide", 0, sizeof slot);
+    row("slot_decide", "", 0, sizeof slot);
     make("channel", call_channel, NULL, 0);
-    row("channel", 0, sizeof(uint8_t));
+    row("channel", "", 0, sizeof(uint8_t));
     make("increment", call_increment, NULL, 0);
-    row("increment", 0, sizeof number);
+    row("increment", "", 0, sizeof number);
     make("join metric", call_join_metric, &metric.number, TESOLVAGNA_DONE);
-    row("join_metric", 0, sizeof metric);
+    row("join_metric", "", 0, sizeof metric);
 }
 
 int main(void)
