@@ -49,7 +49,8 @@ fn transmit(asn: u64, found: Found, other: Decision) -> Decision
 fn within(size: u32, count: usize, below: bool, id: u32, asn: u64) -> bool
     ensures { λ r. ⌜ r ≡ limits size count below id asn ⌝ }
 {
-    (1 <= size) & ((1 <= count) & ((count <= MOST_LINKS) & (below & ((id == 0) & (asn <= LAST_ASN)))))
+    (1 <= size)
+        & ((1 <= count) & ((count <= MOST_LINKS) & (below & ((id == 0) & (asn <= LAST_ASN)))))
 }
 
 fn act(asn: u64, waits: bool, sends: Found, hears: Found) -> Decision

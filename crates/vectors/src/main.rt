@@ -2,11 +2,11 @@
 // src/ has what they must be.
 ghost use Prim.Native.Nat.{_≤_};
 use eb_record_spec::Link;
+use libc::STDOUT_FILENO;
 use nbr_metric_spec::Place;
 use nbr_table_spec::Parent;
 use nbr_table_spec::Table;
 use slot_spec::SlotAnswer;
-use libc::STDOUT_FILENO;
 
 // The last ASN: an ASN has five bytes.
 const LAST_ASN: u64 = 0xFF_FFFF_FFFF;
@@ -145,7 +145,10 @@ fn hop(rank: u16) -> u16 {
 
 // RFC 8180's example of five hops: each adds 512.
 fn hops() {
-    io::write_all(STDOUT_FILENO, b"rank: join metric's number, metric, child's own rank\n");
+    io::write_all(
+        STDOUT_FILENO,
+        b"rank: join metric's number, metric, child's own rank\n",
+    );
     let first = hop(256);
     let second = hop(first);
     let third = hop(second);
