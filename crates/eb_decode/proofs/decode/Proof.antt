@@ -40,15 +40,5 @@ returns-2 c = search (needs, forms)
 pub decode-spec : {M : Type 1} → statement M
 decode-spec =
     tie.close
-    (tie.spec
-    is-inside-requires
-    header-at-requires
-    synchronization-at-requires
-    template-at-requires
-    byte-requires
-    cast-t8
-    slotframe-at-requires
-    joining-at-requires
-    returns
-    blank-form-requires
-    returns-2)
+    (tie.spec is-inside-requires header-at-requires synchronization-at-requires template-at-requires byte-requires
+    cast-t8 slotframe-at-requires joining-at-requires returns blank-form-requires returns-2)

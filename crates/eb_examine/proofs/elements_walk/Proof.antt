@@ -25,10 +25,4 @@ returns-3 c = search (needs, reading)
 pub elements-walk-spec : {M : Type 1} → statement M
 elements-walk-spec =
     tie.close
-    (tie.spec
-    header-list-requires
-    walk-start-requires
-    returns
-    returns-2
-    payload-list-requires
-    returns-3)
+    (tie.spec header-list-requires walk-start-requires returns returns-2 payload-list-requires returns-3)

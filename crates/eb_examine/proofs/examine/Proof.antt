@@ -29,11 +29,5 @@ returns-2 c = (search (needs, reading), accepted-lies-inside)
 pub examine-spec : {M : Type 1} → statement M
 examine-spec =
     tie.close
-    (tie.spec
-    mac-header-fault-requires
-    blank-walk-requires
-    returns
-    elements-offset-requires
-    elements-walk-requires
-    walk-number-requires
-    returns-2)
+    (tie.spec mac-header-fault-requires blank-walk-requires returns elements-offset-requires elements-walk-requires
+    walk-number-requires returns-2)

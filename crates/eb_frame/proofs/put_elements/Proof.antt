@@ -39,13 +39,5 @@ returns-2 c =
 pub put-elements-spec : {M : Type 1} → statement M
 put-elements-spec =
     tie.close
-    (tie.spec
-    returns
-    before-joining-requires
-    put-le-requires
-    add-put-group
-    put-group-requires
-    add-put-joining
-    put-joining-requires
-    same-length
-    returns-2)
+    (tie.spec returns before-joining-requires put-le-requires add-put-group put-group-requires add-put-joining
+    put-joining-requires same-length returns-2)

@@ -31,12 +31,5 @@ returns c = search (needs, framings)
 pub put-frame-spec : {M : Type 1} → statement M
 put-frame-spec =
     tie.close
-    (tie.spec
-    sequence-size-requires
-    add-at
-    source-size-requires
-    add-at-2
-    put-mac-header-requires
-    put-elements-requires
-    same-length
-    returns)
+    (tie.spec sequence-size-requires add-at source-size-requires add-at-2 put-mac-header-requires
+    put-elements-requires same-length returns)

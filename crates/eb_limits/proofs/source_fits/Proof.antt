@@ -25,10 +25,4 @@ returns-2 c = search (needs, limits)
 pub source-fits-spec : {M : Type 1} → statement M
 source-fits-spec =
     tie.close
-    (tie.spec
-    enum-known-source
-    in-two-bytes-requires
-    returns
-    enum-known-source-2
-    in-eight-bytes-requires
-    returns-2)
+    (tie.spec enum-known-source in-two-bytes-requires returns enum-known-source-2 in-eight-bytes-requires returns-2)

@@ -22,9 +22,4 @@ returns-2 c = search (needs, limits)
 pub template-fits-spec : {M : Type 1} → statement M
 template-fits-spec =
     tie.close
-    (tie.spec
-    timings-below-requires
-    timings-below-requires-2
-    returns
-    timings-below-requires-3
-    returns-2)
+    (tie.spec timings-below-requires timings-below-requires-2 returns timings-below-requires-3 returns-2)

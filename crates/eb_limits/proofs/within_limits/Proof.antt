@@ -28,11 +28,5 @@ returns c = search (needs, limits)
 pub within-limits-spec : {M : Type 1} → statement M
 within-limits-spec =
     tie.close
-    (tie.spec
-    sequence-fits-requires
-    source-fits-requires
-    synchronization-fits-requires
-    template-fits-requires
-    slotframe-fits-requires
-    joining-fits-requires
-    returns)
+    (tie.spec sequence-fits-requires source-fits-requires synchronization-fits-requires template-fits-requires
+    slotframe-fits-requires joining-fits-requires returns)

@@ -31,12 +31,5 @@ returns-2 c = search (needs, grouping)
 pub put-group-spec : {M : Type 1} → statement M
 put-group-spec =
     tie.close
-    (tie.spec
-    returns
-    template-size-requires
-    put-group-start-requires
-    add-put-group-rest
-    add-put-group-rest-2
-    put-group-rest-requires
-    same-length
-    returns-2)
+    (tie.spec returns template-size-requires put-group-start-requires add-put-group-rest add-put-group-rest-2
+    put-group-rest-requires same-length returns-2)

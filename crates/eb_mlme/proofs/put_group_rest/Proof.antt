@@ -31,12 +31,5 @@ returns-2 c = search (needs, grouping)
 pub put-group-rest-spec : {M : Type 1} → statement M
 put-group-rest-spec =
     tie.close
-    (tie.spec
-    returns
-    mul-put-le
-    add-put-le
-    put-le-requires
-    add-put-slotframe
-    put-slotframe-requires
-    same-length
+    (tie.spec returns mul-put-le add-put-le put-le-requires add-put-slotframe put-slotframe-requires same-length
     returns-2)

@@ -40,15 +40,5 @@ returns-2 c = search (needs, grouping)
 pub put-group-start-spec : {M : Type 1} → statement M
 put-group-start-spec =
     tie.close
-    (tie.spec
-    returns
-    group-size-requires
-    add-put-le
-    put-le-requires
-    add-put-le-2
-    synchronization-number-requires
-    put-le-requires-2
-    add-put-template
-    put-template-requires
-    same-length
-    returns-2)
+    (tie.spec returns group-size-requires add-put-le put-le-requires add-put-le-2 synchronization-number-requires
+    put-le-requires-2 add-put-template put-template-requires same-length returns-2)

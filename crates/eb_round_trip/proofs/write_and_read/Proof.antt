@@ -47,14 +47,5 @@ returns-2 c =
 pub write-and-read-spec : {M : Type 1} → statement M
 write-and-read-spec =
     tie.close
-    (tie.spec
-    write-requires
-    refused-requires
-    same-length
-    returns
-    sized-requires
-    slice-reshare-prefix-read
-    slice-aggregate-read
-    read-requires
-    same-length-2
-    returns-2)
+    (tie.spec write-requires refused-requires same-length returns sized-requires slice-reshare-prefix-read
+    slice-aggregate-read read-requires same-length-2 returns-2)

@@ -32,12 +32,5 @@ returns-4 c = (search (needs, answers), (search (needs, answers), write-numbers)
 pub write-spec : {M : Type 1} → statement M
 write-spec =
     tie.close
-    (tie.spec
-    within-limits-requires
-    returns
-    frame-length-requires
-    returns-2
-    returns-3
-    put-frame-requires
-    same-length
+    (tie.spec within-limits-requires returns frame-length-requires returns-2 returns-3 put-frame-requires same-length
     returns-4)

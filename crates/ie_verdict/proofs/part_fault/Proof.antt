@@ -49,18 +49,6 @@ returns-6 c = search (needs, verdicts) depth 9
 pub part-fault-spec : {M : Type 1} → statement M
 part-fault-spec =
     tie.close
-    (tie.spec
-    span-requires
-    sync-fault-requires
-    returns
-    byte-requires
-    timeslot-fault-requires
-    returns-2
-    hopping-fault-requires
-    returns-3
-    slotframe-fault-requires
-    returns-4
-    byte-requires-2
-    joining-fault-requires
-    returns-5
-    returns-6)
+    (tie.spec span-requires sync-fault-requires returns byte-requires timeslot-fault-requires returns-2
+    hopping-fault-requires returns-3 slotframe-fault-requires returns-4 byte-requires-2 joining-fault-requires
+    returns-5 returns-6)

@@ -38,12 +38,4 @@ returns-6 c = search (needs, verdicts) depth 9
 pub timeslot-fault-spec : {M : Type 1} → statement M
 timeslot-fault-spec =
     tie.close
-    (tie.spec
-    twice-requires
-    returns
-    twice-requires-2
-    returns-2
-    returns-3
-    returns-4
-    returns-5
-    returns-6)
+    (tie.spec twice-requires returns twice-requires-2 returns-2 returns-3 returns-4 returns-5 returns-6)

@@ -51,17 +51,5 @@ returns-2 c = search (needs, listed-over, listed-begin, listed-turn, listed-end)
 pub decide-listed-spec : {M : Type 1} → statement M
 decide-listed-spec =
     tie.close
-    (tie.spec
-    Inv-loop
-    μ-loop
-    returns
-    begin-requires
-    loop-holds
-    sub-index
-    mul-step
-    array-copy-out-step
-    step-requires
-    loop-less
-    loop-again
-    conclude-requires
-    returns-2)
+    (tie.spec Inv-loop μ-loop returns begin-requires loop-holds sub-index mul-step array-copy-out-step step-requires
+    loop-less loop-again conclude-requires returns-2)

@@ -36,12 +36,5 @@ returns-3 c =
 pub bench-line-spec : {M : Type 1} → statement M
 bench-line-spec =
     tie.close
-    (tie.spec
-    returns
-    read-requires
-    put-refused-requires
-    same-length
-    returns-2
-    put-accepted-requires
-    same-length-2
+    (tie.spec returns read-requires put-refused-requires same-length returns-2 put-accepted-requires same-length-2
     returns-3)

@@ -25,10 +25,5 @@ returns c = search (needs, lines)
 pub put-decimal-spec : {M : Type 1} → statement M
 put-decimal-spec =
     tie.close
-    (tie.spec
-    decimal-requires
-    array-share-prefix-digits
-    slice-aggregate-put-text
-    put-text-requires
-    same-length
+    (tie.spec decimal-requires array-share-prefix-digits slice-aggregate-put-text put-text-requires same-length
     returns)

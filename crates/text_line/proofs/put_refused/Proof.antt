@@ -22,9 +22,4 @@ returns c = search (needs, lines)
 pub put-refused-spec : {M : Type 1} → statement M
 put-refused-spec =
     tie.close
-    (tie.spec
-    slice-aggregate-put-field
-    put-field-requires
-    put-newline-requires
-    same-length
-    returns)
+    (tie.spec slice-aggregate-put-field put-field-requires put-newline-requires same-length returns)

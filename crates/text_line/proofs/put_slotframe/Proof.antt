@@ -28,11 +28,5 @@ returns c = search (needs, lines)
 pub put-slotframe-spec : {M : Type 1} → statement M
 put-slotframe-spec =
     tie.close
-    (tie.spec
-    slice-aggregate-put-field
-    put-field-requires
-    slice-aggregate-put-field-2
-    put-field-requires-2
-    put-newline-requires
-    same-length
-    returns)
+    (tie.spec slice-aggregate-put-field put-field-requires slice-aggregate-put-field-2 put-field-requires-2
+    put-newline-requires same-length returns)

@@ -25,10 +25,5 @@ returns c = search (needs, lines)
 pub put-synchronization-spec : {M : Type 1} → statement M
 put-synchronization-spec =
     tie.close
-    (tie.spec
-    slice-aggregate-put-field
-    put-field-requires
-    slice-aggregate-put-field-2
-    put-field-requires-2
-    same-length
-    returns)
+    (tie.spec slice-aggregate-put-field put-field-requires slice-aggregate-put-field-2 put-field-requires-2
+    same-length returns)

@@ -43,16 +43,5 @@ returns c = search (needs, elements)
 pub joining-present-spec : {M : Type 1} → statement M
 joining-present-spec =
     tie.close
-    (tie.spec
-    be32-requires
-    mul-skip
-    add-skip
-    sub-size
-    sub-size-2
-    cast-t16
-    cast-t19
-    cast-t21
-    proxy-address-requires
-    cast-t23
-    network-within-requires
-    returns)
+    (tie.spec be32-requires mul-skip add-skip sub-size sub-size-2 cast-t16 cast-t19 cast-t21 proxy-address-requires
+    cast-t23 network-within-requires returns)

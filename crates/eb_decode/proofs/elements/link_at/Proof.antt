@@ -55,20 +55,5 @@ returns c = search (needs, elements)
 pub link-at-spec : {M : Type 1} → statement M
 link-at-spec =
     tie.close
-    (tie.spec
-    mul-le16
-    add-le16
-    add-le16-2
-    le16-requires
-    cast-t8
-    mul-le16-2
-    add-le16-3
-    add-le16-4
-    le16-requires-2
-    cast-t13
-    mul-byte
-    add-byte
-    add-byte-2
-    byte-requires
-    cast-t18
-    returns)
+    (tie.spec mul-le16 add-le16 add-le16-2 le16-requires cast-t8 mul-le16-2 add-le16-3 add-le16-4 le16-requires-2
+    cast-t13 mul-byte add-byte add-byte-2 byte-requires cast-t18 returns)

@@ -45,15 +45,5 @@ returns c = search (needs, elements)
 pub links-at-spec : {M : Type 1} → statement M
 links-at-spec =
     tie.close
-    (tie.spec
-    Inv-loop
-    μ-loop
-    blank-link-requires
-    loop-holds
-    link-at-requires
-    mul-all
-    array-set-from-all
-    add-i
-    loop-less
-    loop-again
-    returns)
+    (tie.spec Inv-loop μ-loop blank-link-requires loop-holds link-at-requires mul-all array-set-from-all add-i
+    loop-less loop-again returns)

@@ -45,15 +45,5 @@ returns c = search (needs, elements)
 pub network-within-spec : {M : Type 1} → statement M
 network-within-spec =
     tie.close
-    (tie.spec
-    Inv-loop
-    μ-loop
-    loop-holds
-    add-all
-    add-all-2
-    shared-slice-read-all
-    array-write-all
-    add-i
-    loop-less
-    loop-again
-    returns)
+    (tie.spec Inv-loop μ-loop loop-holds add-all add-all-2 shared-slice-read-all array-write-all add-i loop-less
+    loop-again returns)

@@ -40,15 +40,5 @@ returns c = search (needs, elements)
 pub slotframe-at-spec : {M : Type 1} → statement M
 slotframe-at-spec =
     tie.close
-    (tie.spec
-    add-byte
-    byte-requires
-    add-byte-2
-    byte-requires-2
-    cast-t6
-    add-le16
-    le16-requires
-    cast-t9
-    cast-t10
-    links-at-requires
-    returns)
+    (tie.spec add-byte byte-requires add-byte-2 byte-requires-2 cast-t6 add-le16 le16-requires cast-t9 cast-t10
+    links-at-requires returns)

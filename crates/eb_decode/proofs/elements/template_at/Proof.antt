@@ -28,11 +28,4 @@ returns-2 c = search (needs, elements)
 pub template-at-spec : {M : Type 1} → statement M
 template-at-spec =
     tie.close
-    (tie.spec
-    sub-size
-    byte-requires
-    cast-id
-    returns
-    choose-requires
-    timings-within-requires
-    returns-2)
+    (tie.spec sub-size byte-requires cast-id returns choose-requires timings-within-requires returns-2)

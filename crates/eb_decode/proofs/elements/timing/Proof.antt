@@ -62,22 +62,5 @@ returns-3 c = search (needs, fixing, elements)
 pub timing-spec : {M : Type 1} → statement M
 timing-spec =
     tie.close
-    (tie.spec
-    mul-le16
-    add-le16
-    add-le16-2
-    le16-requires
-    cast-result
-    returns
-    add-last
-    add-last-2
-    last-requires
-    returns-2
-    add-last-3
-    add-last-4
-    add-last-5
-    mul-last
-    add-last-6
-    add-last-7
-    last-requires-2
-    returns-3)
+    (tie.spec mul-le16 add-le16 add-le16-2 le16-requires cast-result returns add-last add-last-2 last-requires
+    returns-2 add-last-3 add-last-4 add-last-5 mul-last add-last-6 add-last-7 last-requires-2 returns-3)

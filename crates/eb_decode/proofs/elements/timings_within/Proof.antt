@@ -42,14 +42,4 @@ returns c = search (needs, fixing, elements)
 pub timings-within-spec : {M : Type 1} → statement M
 timings-within-spec =
     tie.close
-    (tie.spec
-    Inv-loop
-    μ-loop
-    loop-holds
-    timing-requires
-    mul-all
-    array-write-all
-    add-k
-    loop-less
-    loop-again
-    returns)
+    (tie.spec Inv-loop μ-loop loop-holds timing-requires mul-all array-write-all add-k loop-less loop-again returns)

@@ -37,14 +37,5 @@ returns c = search (needs, heading)
 pub header-at-spec : {M : Type 1} → statement M
 header-at-spec =
     tie.close
-    (tie.spec
-    le16-requires
-    control-of-requires
-    offsets-of-requires
-    byte-requires
-    choose-requires
-    cast-t9
-    le16-requires-2
-    cast-t11
-    source-requires
-    returns)
+    (tie.spec le16-requires control-of-requires offsets-of-requires byte-requires choose-requires cast-t9
+    le16-requires-2 cast-t11 source-requires returns)

@@ -25,10 +25,5 @@ returns c = search (needs, inside)
 pub is-inside-spec : {M : Type 1} → statement M
 is-inside-spec =
     tie.close
-    (tie.spec
-    bytes-inside-requires
-    timeslot-inside-requires
-    bytes-inside-requires-2
-    slotframe-inside-requires
-    joining-inside-requires
-    returns)
+    (tie.spec bytes-inside-requires timeslot-inside-requires bytes-inside-requires-2 slotframe-inside-requires
+    joining-inside-requires returns)

@@ -31,12 +31,5 @@ returns-3 c = search (needs, inside)
 pub slotframe-inside-spec : {M : Type 1} → statement M
 slotframe-inside-spec =
     tie.close
-    (tie.spec
-    returns
-    add-byte
-    byte-requires
-    returns-2
-    mul-bytes-inside
-    add-bytes-inside
-    bytes-inside-requires
+    (tie.spec returns add-byte byte-requires returns-2 mul-bytes-inside add-bytes-inside bytes-inside-requires
     returns-3)

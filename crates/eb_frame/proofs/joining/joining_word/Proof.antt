@@ -49,18 +49,5 @@ returns c = search (needs, joinings)
 pub joining-word-spec : {M : Type 1} → statement M
 joining-word-spec =
     tie.close
-    (tie.spec
-    flag-of-requires
-    mul-result
-    flag-of-requires-2
-    mul-result-2
-    add-result
-    cast-result
-    mul-result-3
-    add-result-2
-    cast-result-2
-    mul-result-4
-    add-result-3
-    cast-result-3
-    add-result-4
-    returns)
+    (tie.spec flag-of-requires mul-result flag-of-requires-2 mul-result-2 add-result cast-result mul-result-3
+    add-result-2 cast-result-2 mul-result-4 add-result-3 cast-result-3 add-result-4 returns)

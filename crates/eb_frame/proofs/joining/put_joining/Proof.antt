@@ -28,11 +28,5 @@ returns-3 c = search (needs, joinings)
 pub put-joining-spec : {M : Type 1} → statement M
 put-joining-spec =
     tie.close
-    (tie.spec
-    returns
-    put-joining-start-requires
-    add-put-joining-rest
-    put-joining-rest-requires
-    same-length
-    returns-2
+    (tie.spec returns put-joining-start-requires add-put-joining-rest put-joining-rest-requires same-length returns-2
     returns-3)

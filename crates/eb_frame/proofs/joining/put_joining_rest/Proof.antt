@@ -34,13 +34,5 @@ returns-2 c = search (needs, joinings)
 pub put-joining-rest-spec : {M : Type 1} → statement M
 put-joining-rest-spec =
     tie.close
-    (tie.spec
-    returns
-    address-width-requires
-    put-be-requires
-    cast-put-network
-    add-put-network
-    at-most-16-requires
-    put-network-requires
-    same-length
-    returns-2)
+    (tie.spec returns address-width-requires put-be-requires cast-put-network add-put-network at-most-16-requires
+    put-network-requires same-length returns-2)

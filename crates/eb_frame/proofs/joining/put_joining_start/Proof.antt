@@ -40,15 +40,5 @@ returns-2 c = search (needs, joinings)
 pub put-joining-start-spec : {M : Type 1} → statement M
 put-joining-start-spec =
     tie.close
-    (tie.spec
-    returns
-    joining-size-requires
-    add-put-le
-    mul-put-le
-    add-put-le-2
-    put-le-requires
-    add-put-be
-    joining-word-requires
-    put-be-requires
-    same-length
-    returns-2)
+    (tie.spec returns joining-size-requires add-put-le mul-put-le add-put-le-2 put-le-requires add-put-be
+    joining-word-requires put-be-requires same-length returns-2)

@@ -52,17 +52,5 @@ returns-2 c = search (needs, joinings)
 pub put-network-spec : {M : Type 1} → statement M
 put-network-spec =
     tie.close
-    (tie.spec
-    Inv-loop
-    μ-loop
-    returns
-    loop-holds
-    add-put-le
-    array-read-wide
-    wide-requires
-    put-le-requires
-    add-i
-    loop-less
-    loop-again
-    same-length
-    returns-2)
+    (tie.spec Inv-loop μ-loop returns loop-holds add-put-le array-read-wide wide-requires put-le-requires add-i
+    loop-less loop-again same-length returns-2)

@@ -37,14 +37,5 @@ returns c = search (needs, macHeaders)
 pub control-word-spec : {M : Type 1} → statement M
 control-word-spec =
     tie.close
-    (tie.spec
-    suppressed-bit-requires
-    mul-result
-    add-result
-    add-result-2
-    add-result-3
-    add-result-4
-    source-mode-requires
-    mul-result-2
-    add-result-5
-    returns)
+    (tie.spec suppressed-bit-requires mul-result add-result add-result-2 add-result-3 add-result-4
+    source-mode-requires mul-result-2 add-result-5 returns)

@@ -64,23 +64,6 @@ returns c = search (needs, macHeaders)
 pub put-mac-header-spec : {M : Type 1} → statement M
 put-mac-header-spec =
     tie.close
-    (tie.spec
-    sequence-size-requires
-    control-word-requires
-    sequence-number-requires
-    mul-first
-    add-first
-    cast-put-le
-    add-put-le
-    put-le-requires
-    add-put-le-2
-    mul-put-le
-    add-put-le-3
-    put-le-requires-2
-    add-put-le-4
-    source-size-requires
-    cast-put-le-2
-    source-number-requires
-    put-le-requires-3
-    same-length
-    returns)
+    (tie.spec sequence-size-requires control-word-requires sequence-number-requires mul-first add-first cast-put-le
+    add-put-le put-le-requires add-put-le-2 mul-put-le add-put-le-3 put-le-requires-2 add-put-le-4
+    source-size-requires cast-put-le-2 source-number-requires put-le-requires-3 same-length returns)

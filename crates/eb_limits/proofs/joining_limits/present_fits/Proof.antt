@@ -22,9 +22,4 @@ returns c = search (needs, joinings)
 pub present-fits-spec : {M : Type 1} → statement M
 present-fits-spec =
     tie.close
-    (tie.spec
-    at-most-16-requires
-    address-fits-requires
-    network-below-requires
-    network-unused-requires
-    returns)
+    (tie.spec at-most-16-requires address-fits-requires network-below-requires network-unused-requires returns)

@@ -34,13 +34,5 @@ returns c = search (needs, lengths)
 pub frame-length-spec : {M : Type 1} → statement M
 frame-length-spec =
     tie.close
-    (tie.spec
-    sequence-size-requires
-    add-result
-    source-size-requires
-    add-result-2
-    group-size-requires
-    add-result-3
-    joining-part-requires
-    add-result-4
-    returns)
+    (tie.spec sequence-size-requires add-result source-size-requires add-result-2 group-size-requires add-result-3
+    joining-part-requires add-result-4 returns)

@@ -42,14 +42,5 @@ returns c = search (needs, slotframes)
 pub links-fit-spec : {M : Type 1} → statement M
 links-fit-spec =
     tie.close
-    (tie.spec
-    Inv-loop
-    μ-loop
-    loop-holds
-    sub-i
-    mul-link-fits
-    array-copy-out-link-fits
-    link-fits-requires
-    loop-less
-    loop-again
-    returns)
+    (tie.spec Inv-loop μ-loop loop-holds sub-i mul-link-fits array-copy-out-link-fits link-fits-requires loop-less
+    loop-again returns)

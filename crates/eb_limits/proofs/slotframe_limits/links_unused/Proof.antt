@@ -42,14 +42,5 @@ returns c = search (needs, slotframes)
 pub links-unused-spec : {M : Type 1} → statement M
 links-unused-spec =
     tie.close
-    (tie.spec
-    Inv-loop
-    μ-loop
-    loop-holds
-    sub-i
-    mul-link-unused
-    array-copy-out-link-unused
-    link-unused-requires
-    loop-less
-    loop-again
-    returns)
+    (tie.spec Inv-loop μ-loop loop-holds sub-i mul-link-unused array-copy-out-link-unused link-unused-requires
+    loop-less loop-again returns)

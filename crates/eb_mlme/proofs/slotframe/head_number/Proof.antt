@@ -37,14 +37,5 @@ returns c = search (needs, slotframes)
 pub head-number-spec : {M : Type 1} → statement M
 head-number-spec =
     tie.close
-    (tie.spec
-    mul-result
-    add-result
-    add-result-2
-    mul-result-2
-    add-result-3
-    mul-result-3
-    add-result-4
-    mul-result-4
-    add-result-5
-    returns)
+    (tie.spec mul-result add-result add-result-2 mul-result-2 add-result-3 mul-result-3 add-result-4 mul-result-4
+    add-result-5 returns)

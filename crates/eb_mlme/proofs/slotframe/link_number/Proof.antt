@@ -31,12 +31,4 @@ returns c = search (needs, slotframes)
 pub link-number-spec : {M : Type 1} → statement M
 link-number-spec =
     tie.close
-    (tie.spec
-    cast-result
-    cast-result-2
-    mul-result
-    add-result
-    cast-result-3
-    mul-result-2
-    add-result-2
-    returns)
+    (tie.spec cast-result cast-result-2 mul-result add-result cast-result-3 mul-result-2 add-result-2 returns)

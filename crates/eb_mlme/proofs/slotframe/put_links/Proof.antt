@@ -61,19 +61,5 @@ returns-2 c = search (needs, slotframes)
 pub put-links-spec : {M : Type 1} → statement M
 put-links-spec =
     tie.close
-    (tie.spec
-    Inv-loop
-    μ-loop
-    returns
-    loop-holds
-    mul-put-le
-    add-put-le
-    mul-link-number
-    array-copy-out-link-number
-    link-number-requires
-    put-le-requires
-    add-i
-    loop-less
-    loop-again
-    same-length
-    returns-2)
+    (tie.spec Inv-loop μ-loop returns loop-holds mul-put-le add-put-le mul-link-number array-copy-out-link-number
+    link-number-requires put-le-requires add-i loop-less loop-again same-length returns-2)

@@ -31,12 +31,5 @@ returns-2 c = search (needs, slotframes)
 pub put-slotframe-spec : {M : Type 1} → statement M
 put-slotframe-spec =
     tie.close
-    (tie.spec
-    returns
-    head-number-requires
-    put-le-requires
-    add-put-links
-    at-most-16-requires
-    put-links-requires
-    same-length
-    returns-2)
+    (tie.spec returns head-number-requires put-le-requires add-put-links at-most-16-requires put-links-requires
+    same-length returns-2)

@@ -57,19 +57,5 @@ returns-2 c = search (needs, templates)
 pub put-first-timings-spec : {M : Type 1} → statement M
 put-first-timings-spec =
     tie.close
-    (tie.spec
-    Inv-loop
-    μ-loop
-    returns
-    loop-holds
-    mul-put-le
-    add-put-le
-    mul-put-le-2
-    array-read-put-le
-    cast-put-le
-    put-le-requires
-    add-i
-    loop-less
-    loop-again
-    same-length
-    returns-2)
+    (tie.spec Inv-loop μ-loop returns loop-holds mul-put-le add-put-le mul-put-le-2 array-read-put-le cast-put-le
+    put-le-requires add-i loop-less loop-again same-length returns-2)

@@ -43,16 +43,5 @@ returns-2 c = search (needs, templates)
 pub put-last-timings-spec : {M : Type 1} → statement M
 put-last-timings-spec =
     tie.close
-    (tie.spec
-    returns
-    last-width-requires
-    array-read-put-le
-    cast-put-le
-    put-le-requires
-    cast-put-le-2
-    add-put-le
-    array-read-put-le-2
-    cast-put-le-3
-    put-le-requires-2
-    same-length
-    returns-2)
+    (tie.spec returns last-width-requires array-read-put-le cast-put-le put-le-requires cast-put-le-2 add-put-le
+    array-read-put-le-2 cast-put-le-3 put-le-requires-2 same-length returns-2)

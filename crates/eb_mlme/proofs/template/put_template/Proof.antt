@@ -46,17 +46,5 @@ returns-3 c = search (needs, templates)
 pub put-template-spec : {M : Type 1} → statement M
 put-template-spec =
     tie.close
-    (tie.spec
-    returns
-    template-size-requires
-    add-put-le
-    cast-put-le
-    mul-put-le
-    add-put-le-2
-    put-le-requires
-    add-put-timings
-    put-timings-requires
-    same-length
-    returns-2
-    same-length-2
-    returns-3)
+    (tie.spec returns template-size-requires add-put-le cast-put-le mul-put-le add-put-le-2 put-le-requires
+    add-put-timings put-timings-requires same-length returns-2 same-length-2 returns-3)

@@ -25,10 +25,4 @@ returns-2 c = search (needs, templates)
 pub put-timings-spec : {M : Type 1} → statement M
 put-timings-spec =
     tie.close
-    (tie.spec
-    returns
-    put-first-timings-requires
-    add-put-last-timings
-    put-last-timings-requires
-    same-length
-    returns-2)
+    (tie.spec returns put-first-timings-requires add-put-last-timings put-last-timings-requires same-length returns-2)

@@ -29,11 +29,4 @@ returns-3 c = (search (needs, networks), network-lies-inside)
 pub network-span-spec : {M : Type 1} → statement M
 network-span-spec =
     tie.close
-    (tie.spec
-    examine-requires
-    returns
-    returns-2
-    network-offset-requires
-    add-span-from
-    span-from-requires
-    returns-3)
+    (tie.spec examine-requires returns returns-2 network-offset-requires add-span-from span-from-requires returns-3)

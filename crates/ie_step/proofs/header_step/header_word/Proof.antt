@@ -45,14 +45,4 @@ returns-7 c = search (needs, choices) depth 9
 pub header-word-spec : {M : Type 1} → statement M
 header-word-spec =
     tie.close
-    (tie.spec
-    add-from
-    sub-if1
-    returns
-    returns-2
-    returns-3
-    returns-4
-    returns-5
-    returns-6
-    add-t8
-    returns-7)
+    (tie.spec add-from sub-if1 returns returns-2 returns-3 returns-4 returns-5 returns-6 add-t8 returns-7)

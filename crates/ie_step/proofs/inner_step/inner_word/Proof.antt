@@ -42,14 +42,4 @@ returns-4 c = search (needs, choices) depth 9
 pub inner-word-spec : {M : Type 1} → statement M
 inner-word-spec =
     tie.close
-    (tie.spec
-    add-from
-    sub-if2
-    returns
-    add-t10
-    returns-2
-    sub-if3
-    returns-3
-    add-t14
-    add-t12
-    returns-4)
+    (tie.spec add-from sub-if2 returns add-t10 returns-2 sub-if3 returns-3 add-t14 add-t12 returns-4)

@@ -41,13 +41,4 @@ returns-5 c = search (needs, choices, widen) depth 9
 pub outer-word-spec : {M : Type 1} → statement M
 outer-word-spec =
     tie.close
-    (tie.spec
-    add-from
-    sub-if1
-    returns
-    returns-2
-    returns-3
-    returns-4
-    add-group-word
-    group-word-requires
-    returns-5)
+    (tie.spec add-from sub-if1 returns returns-2 returns-3 returns-4 add-group-word group-word-requires returns-5)

@@ -46,17 +46,5 @@ returns-4 c = search (needs, verdicts) depth 9
 pub slotframe-at-spec : {M : Type 1} → statement M
 slotframe-at-spec =
     tie.close
-    (tie.spec
-    returns
-    add-byte
-    byte-requires
-    byte-requires-2
-    slotframe-shape-requires
-    returns-2
-    returns-3
-    add-le
-    le-requires
-    add-timeslots-fit
-    timeslots-fit-requires
-    slotframe-limits-requires
-    returns-4)
+    (tie.spec returns add-byte byte-requires byte-requires-2 slotframe-shape-requires returns-2 returns-3 add-le
+    le-requires add-timeslots-fit timeslots-fit-requires slotframe-limits-requires returns-4)

@@ -40,14 +40,4 @@ returns-2 c = search (needs, verdicts) depth 9
 pub timeslots-fit-spec : {M : Type 1} → statement M
 timeslots-fit-spec =
     tie.close
-    (tie.spec
-    Inv-loop
-    μ-loop
-    loop-holds
-    le-requires
-    returns
-    add-offset
-    sub-left
-    loop-less
-    loop-again
-    returns-2)
+    (tie.spec Inv-loop μ-loop loop-holds le-requires returns add-offset sub-left loop-less loop-again returns-2)

@@ -45,16 +45,5 @@ returns c = be-ends _ _ _ _ (c .before .loop .inv .1) _ (c .before .loop .inv .0
 pub be-within-spec : {M : Type 1} → statement M
 be-within-spec =
     tie.close
-    (tie.spec
-    Inv-loop
-    μ-loop
-    loop-holds
-    mul-number
-    cast-byte
-    add-byte
-    byte-requires
-    add-number
-    add-i
-    loop-less
-    loop-again
-    returns)
+    (tie.spec Inv-loop μ-loop loop-holds mul-number cast-byte add-byte byte-requires add-number add-i loop-less
+    loop-again returns)

@@ -45,16 +45,5 @@ returns c = le-ends _ _ _ _ _ (c .before .loop .inv .1) (search needs)
 pub le-within-spec : {M : Type 1} → statement M
 le-within-spec =
     tie.close
-    (tie.spec
-    Inv-loop
-    μ-loop
-    loop-holds
-    sub-left
-    mul-number
-    cast-byte
-    add-byte
-    byte-requires
-    add-number
-    loop-less
-    loop-again
-    returns)
+    (tie.spec Inv-loop μ-loop loop-holds sub-left mul-number cast-byte add-byte byte-requires add-number loop-less
+    loop-again returns)

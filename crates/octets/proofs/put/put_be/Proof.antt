@@ -50,17 +50,5 @@ returns-2 c = search (needs, stored-out, be-start, be-start-rest, be-next, be-ne
 pub put-be-spec : {M : Type 1} → statement M
 put-be-spec =
     tie.close
-    (tie.spec
-    Inv-loop
-    μ-loop
-    returns
-    loop-holds
-    sub-left
-    cast-put-byte
-    add-put-byte
-    cast-put-byte-2
-    put-byte-requires
-    loop-less
-    loop-again
-    same-length
-    returns-2)
+    (tie.spec Inv-loop μ-loop returns loop-holds sub-left cast-put-byte add-put-byte cast-put-byte-2 put-byte-requires
+    loop-less loop-again same-length returns-2)

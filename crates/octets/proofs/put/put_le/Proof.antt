@@ -34,13 +34,5 @@ returns-3 c = search (needs, stored-out, le-cut-at, le-reads)
 pub put-le-spec : {M : Type 1} → statement M
 put-le-spec =
     tie.close
-    (tie.spec
-    returns
-    sub-inside
-    cast-put-le-within
-    put-le-within-requires
-    same-length
-    returns-2
-    put-le-within-requires-2
-    same-length-2
-    returns-3)
+    (tie.spec returns sub-inside cast-put-le-within put-le-within-requires same-length returns-2
+    put-le-within-requires-2 same-length-2 returns-3)

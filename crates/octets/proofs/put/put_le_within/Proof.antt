@@ -47,16 +47,5 @@ returns c = search (needs, le-start, le-next, le-end)
 pub put-le-within-spec : {M : Type 1} → statement M
 put-le-within-spec =
     tie.close
-    (tie.spec
-    Inv-loop
-    μ-loop
-    loop-holds
-    cast-buffer
-    cast-buffer-2
-    add-buffer
-    slice-write-buffer
-    add-i
-    loop-less
-    loop-again
-    same-length
-    returns)
+    (tie.spec Inv-loop μ-loop loop-holds cast-buffer cast-buffer-2 add-buffer slice-write-buffer add-i loop-less
+    loop-again same-length returns)

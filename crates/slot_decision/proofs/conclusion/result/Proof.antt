@@ -1,19 +1,15 @@
+-- `slot_decision::conclusion::result` meets its contract. Assumes nothing.
 use Rattle.slot_spec.proofs.SlotLaws.{slots}
 use borrow.Author.Needs.{needs}
 use Rattle.slot_decision.proofs.conclusion.result.Statement.{statement}
 use Rattle.slot_decision.proofs.conclusion.result.Tie as tie
-use Rattle.slot_decision.proofs.conclusion.result.Reads as reads
-use Rattle.slot_decision.proofs.conclusion.result.Lts as lts
 
--- src/conclusion.rt:19:26
 cast-t4 : tie.Need-cast-t4
 cast-t4 c = search needs
 
--- src/conclusion.rt:19:9
 returns : tie.Need-returns
 returns c = search (needs, slots)
 
--- src/conclusion.rt:15:1
 returns-2 : tie.Need-returns-2
 returns-2 c = search (needs, slots)
 

@@ -1,21 +1,15 @@
+-- `slot_decision::scan::searching` meets its contract. Assumes nothing.
 use Rattle.slot_spec.proofs.SlotLaws.{slots}
 use borrow.Author.Needs.{needs}
 use Rattle.slot_decision.proofs.scan.searching.Statement.{statement}
 use Rattle.slot_decision.proofs.scan.searching.Tie as tie
-use Rattle.slot_decision.proofs.scan.searching.Reads as reads
-use Rattle.slot_decision.proofs.scan.searching.Lts as lts
-use Rattle.slot_decision.proofs.scan.pick_offset.Reads as pick-offset-reads
-use Rattle.slot_decision.proofs.scan.pick_index.Reads as pick-index-reads
 
--- src/lib.rt:52:16
 pick-index-requires : tie.Need-pick-index-requires
 pick-index-requires c κs = search needs
 
--- src/lib.rt:53:17
 pick-offset-requires : tie.Need-pick-offset-requires
 pick-offset-requires c κs = search needs
 
--- src/lib.rt:47:1
 returns : tie.Need-returns
 returns c = search (needs, slots)
 

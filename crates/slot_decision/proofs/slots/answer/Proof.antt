@@ -31,12 +31,4 @@ returns-4 c = search (needs, slots)
 pub answer-spec : {M : Type 1} → statement M
 answer-spec =
     tie.close
-    (tie.spec
-    enum-told
-    enum-told-2
-    enum-known-decision
-    enum-known-decision-2
-    returns
-    returns-2
-    returns-3
-    returns-4)
+    (tie.spec enum-told enum-told-2 enum-known-decision enum-known-decision-2 returns returns-2 returns-3 returns-4)
