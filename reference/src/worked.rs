@@ -449,6 +449,13 @@ fn payload_lists() -> Vec<Worked> {
             Check::GroupPastFrame,
         ),
         minimal_and("empty MLME group", &["00 88  MLME group, 0 bytes"]),
+        // As many as a frame has room for.
+        minimal_and("43 empty MLME groups", &["00 88  MLME group, 0 bytes"; 43]),
+        refused(
+            "57 empty MLME groups alone",
+            &[&[START][..], &["00 88  MLME group, 0 bytes"; 57]].concat(),
+            Check::SynchronizationMissing,
+        ),
         accepted(
             "a group for each sub-element",
             &[

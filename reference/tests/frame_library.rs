@@ -68,7 +68,7 @@ fn library_reads_as_the_reference() {
         frames += 1;
     });
     println!("{frames} frames");
-    assert!(frames >= 2_920_623);
+    assert!(frames >= 2_922_859);
     coverage.expect(LEAST);
 }
 

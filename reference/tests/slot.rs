@@ -305,7 +305,7 @@ fn library_decides_as_the_reference() {
         }
     }
 
-    assert!(cases >= 336_000);
+    assert!(cases >= 378_000);
     outcomes.expect(&format!("outcomes of {cases} cases"), LEAST, &OUTCOMES);
     wide.expect("numbers that 16 bits or a byte do not hold", LEAST, &WIDE);
     for (options, count) in options_at_first_active.iter().enumerate() {
