@@ -150,9 +150,8 @@ fn expect_none(what: &str, wrong: Vec<String>, tried: usize, at_least: usize) {
 #[test]
 fn public_functions_promise_and_ask_nothing() {
     let functions = public_functions();
-    let fits = |function: &&Function| {
-        function.signature.contains("\n    ensures") && !function.signature.contains("requires")
-    };
+    let fits =
+        |function: &&Function| function.signature.contains("\n    ensures") && !function.signature.contains("requires");
     let wrong = functions.iter().filter(|function| !fits(function)).map(Function::full_path).collect();
     expect_none("public functions without an ensures, or with a requires", wrong, functions.len(), 50);
 }
@@ -189,7 +188,8 @@ fn wrong_programs() -> Vec<Wrong> {
         let text = read(&path);
         let before = found.len();
         for line in text.lines().filter_map(|line| line.strip_prefix("wrong: ")) {
-            let (said, _) = line.split_once(" (").unwrap_or_else(|| panic!("{}: what is wrong in {line}?", path.display()));
+            let (said, _) =
+                line.split_once(" (").unwrap_or_else(|| panic!("{}: what is wrong in {line}?", path.display()));
             let (name, function) = match said.split_once(", in ") {
                 Some((name, function)) => (name, Some(function.to_string())),
                 None => (said, None),
@@ -219,21 +219,36 @@ fn wrong_programs_have_names_of_their_own() {
     expect_none("names that two wrong programs of a crate have", wrong, all.len(), 200);
 }
 
-/// The function that a wrong program names is the one whose text is changed.
+/// The constant that a piece of a crate's text belongs to, if it does.
+fn constant_of(of: &str, piece: &str) -> Option<String> {
+    let lines = crate_files("src", "rt").into_iter().filter(|(found, _)| found == of).map(|(_, path)| read(&path));
+    let text: String = lines.collect();
+    let line = text.lines().find(|line| line.contains("const ") && line.contains(piece))?;
+    let name = line.split("const ").nth(1)?.split(':').next()?;
+    Some(name.to_string())
+}
+
+/// The function that a wrong program names is the one whose text is changed, or that names a constant whose text is.
 #[test]
 fn wrong_programs_name_their_function() {
     let functions = functions();
     let (mut wrong, mut tried) = (Vec::new(), 0);
     for (of, path) in crate_files("must-fail", "edit") {
         let text = read(&path);
-        let mut named = None;
+        let (mut named, mut put) = (None, Vec::new());
         for line in text.lines() {
             if let Some(said) = line.strip_prefix("wrong: ") {
                 named = said.split_once(" (").and_then(|(said, _)| said.split_once(", in "));
+                put.clear();
+            } else if let Some(new) = line.strip_prefix("new: ") {
+                put.push(new);
             } else if let (Some((name, function)), Some(old)) = (named, line.strip_prefix("old: ")) {
                 tried += 1;
-                let mut ours = functions.iter().filter(|ours| ours.of == of && ours.path == function);
-                if !ours.any(|ours| ours.has(old.trim())) {
+                let constant = constant_of(&of, old.trim());
+                let has = |ours: &Function| {
+                    ours.has(old.trim()) || put.contains(&old) || constant.as_ref().is_some_and(|name| ours.has(name))
+                };
+                if !functions.iter().any(|ours| ours.of == of && ours.path == function && has(ours)) {
                     wrong.push(format!("{of}/{name}, in {function}"));
                 }
             }
@@ -326,7 +341,12 @@ fn functions_have_two_wrong_programs() {
         if named.len() < 2 {
             bad.push(format!("{path}: {} wrong programs in its row", named.len()));
         }
-        bad.extend(named.iter().filter(|wrong| !ours.contains(**wrong)).map(|wrong| format!("{path}: {wrong} is none of its own")));
+        bad.extend(
+            named
+                .iter()
+                .filter(|wrong| !ours.contains(**wrong))
+                .map(|wrong| format!("{path}: {wrong} is none of its own")),
+        );
     }
     expect_none("functions without two wrong programs of their own", bad, all.len(), 100);
 }
@@ -336,18 +356,15 @@ fn functions_have_two_wrong_programs() {
 fn claimed_paths_are_there() {
     let claims = document("docs/CLAIMS.md");
     let crates = crates();
-    let known: BTreeSet<String> = functions()
-        .iter()
-        .map(Function::full_path)
-        .chain(wrong_programs().iter().map(Wrong::full_path))
-        .collect();
+    let known: BTreeSet<String> =
+        functions().iter().map(Function::full_path).chain(wrong_programs().iter().map(Wrong::full_path)).collect();
     let is_path = |word: &&&str| {
         let of = word.split(['/', ':']).next().unwrap_or_default();
         crates.iter().any(|name| name == of) && *word != &of && !word.contains([' ', '*', '.'])
     };
     let words = quoted(&claims);
     let named: Vec<&&str> = words.iter().filter(is_path).collect();
-    let wrong = named.iter().filter(|word| !known.contains(****word)).map(|word| word.to_string()).collect();
+    let wrong = named.iter().filter(|word| !known.contains(***word)).map(|word| word.to_string()).collect();
     expect_none("paths that CLAIMS.md names and that are not there", wrong, named.len(), 200);
 }
 
@@ -444,11 +461,8 @@ fn exported_functions_are_declared() {
     let code: String = header.split("*/").map(|part| part.split("/*").next().unwrap_or_default()).collect();
     let declared: BTreeSet<&str> = called(&code).into_iter().filter(|name| name.starts_with("tesolvagna_")).collect();
     let functions = public_functions();
-    let exported: BTreeSet<&str> = functions
-        .iter()
-        .map(Function::name)
-        .filter(|name| name.starts_with("tesolvagna_"))
-        .collect();
+    let exported: BTreeSet<&str> =
+        functions.iter().map(Function::name).filter(|name| name.starts_with("tesolvagna_")).collect();
     assert_eq!(declared, exported);
     assert!(exported.len() > 10, "only {} exported functions were found", exported.len());
 }

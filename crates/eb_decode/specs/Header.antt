@@ -1,4 +1,4 @@
--- What stands before the elements, without enums. Assumes nothing.
+-- What stands before the elements, without enums (docs/RULES.md, The frame). Assumes nothing.
 use mathlib.Core.List.{List}
 use Prim.Native.Nat.{ℕ}
 use Rattle.eb_record_spec.specs.Form.{isSequenced, sequenceNumber, isExtended, addressNumber}

@@ -1,5 +1,5 @@
 -- How the code goes about an evaluation: one walk over the places keeps the lowest offer so far, a cost and an identifier, and looks
--- for the held parent. The best place of the rules stands in Places.antt; proofs/OfferLaws.antt shows that both agree. Assumes nothing.
+-- for the held parent (docs/RULES.md, Neighbours). The best place of the rules stands in Places.antt; proofs/OfferLaws.antt shows that both agree. Assumes nothing.
 use Prim.Native.Nat.{ℕ}
 use mathlib.Core.Bool.{false}
 use mathlib.Core.List.{List, [], _∷_}

@@ -1,5 +1,5 @@
 -- How the code looks for what breaks a rule: one walk over the places that gathers the identifiers in use. Only contracts of functions
--- that stay in the crate nbr_table cite it. Assumes nothing.
+-- that stay in the crate nbr_table cite it (docs/RULES.md, Neighbours). Assumes nothing.
 use Prim.Native.Nat.{ℕ, zero, suc}
 use mathlib.Core.Bool.{Bool, false, _||_}
 use mathlib.Core.List.{List}

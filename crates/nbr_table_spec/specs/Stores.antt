@@ -1,5 +1,5 @@
 -- How the code goes about advertise, report and forget: it looks for the number of a place, 32 where there is none, and says what is
--- to be stored there. What the rules say of the calls stands in Calls.antt; proofs/StoreLaws.antt shows that both agree. Assumes nothing.
+-- to be stored there (docs/RULES.md, Neighbours). What the rules say of the calls stands in Calls.antt; proofs/StoreLaws.antt shows that both agree. Assumes nothing.
 use Prim.Native.Nat.{ℕ}
 use mathlib.Core.Bool.{Bool}
 use mathlib.Core.List.{List}
