@@ -109,8 +109,8 @@ module _ (ps : List Place) (q : Parent) (kind n value flag : ℕ) (b : broken (r
         ⊎-elim
         (λ n. no-exit (c .parent) (c .rank) ps (sym (ap (λ (z : Table). z .parent) v) ∙ n .0))
         (λ n.
-            let k : c .parent ≡ Held (held (evaluated t .table) .id) = sym (ap (λ (z : Table). z .parent) v) ∙ n .0 in
-            an-exit (c .parent) (c .rank) _ k ∙ sym r ∙ n .2 ∙ ap heldCost v) (own-rank t b) in
+        let k : c .parent ≡ Held (held (evaluated t .table) .id) = sym (ap (λ (z : Table). z .parent) v) ∙ n .0 in
+        an-exit (c .parent) (c .rank) _ k ∙ sym r ∙ n .2 ∙ ap heldCost v) (own-rank t b) in
         (λ i. record { change = cond (sameParent q (c .parent)) 0 1; entry = pathCost (heldPlace q ps); exit = x i; eligible = eligible (heldPlace q ps) }) ∙ ap (visited t) u
 
     pub step-evaluate : (m : Settlement) (z : Place) (v : Visit) → m ≡ settlement ps q → z ≡ blank → v ≡ shown (m .held) q (m .choice) → v .change ≤ 1 → v .entry < 2 ^ 30

@@ -165,18 +165,18 @@ module _ (id : ℕ) (ps : List Place) (i : ℕ) (whole : Place) (found : Sought)
   seeking-next r l e =
       by-test (found .missing)
       (λ m.
-          by-test (named id (getD ps i blank))
-          (λ n.
-              let k : r ≡ record { missing = false; place = getD ps i blank } = e ∙ sym (sought-it id found (getD ps i blank) m n) in
-              let g : getD ps i blank ≡ whole = rw (drop-cons ps i blank l, n) at (s .wanted m .1) in
-              record { wanted = λ h. clash (r .missing) h (ap (λ (z : Sought). z .missing) k); settled = λ h. ap (λ (z : Sought). z .place) k ∙ g })
-          (λ n.
-              let k : r ≡ found = e ∙ sym (sought-not id found (getD ps i blank) m n) in
-              let g : firstOf (named id) (drop (suc i) ps) ≡ whole = rw (drop-cons ps i blank l, n) at (s .wanted m .1) in
-              record { wanted = λ h. (ap (λ (z : Sought). z .place) k ∙ s .wanted m .0, rw add-one g); settled = λ h. clash (r .missing) (ap (λ (z : Sought). z .missing) k ∙ m) h }))
+      by-test (named id (getD ps i blank))
+      (λ n.
+      let k : r ≡ record { missing = false; place = getD ps i blank } = e ∙ sym (sought-it id found (getD ps i blank) m n) in
+      let g : getD ps i blank ≡ whole = rw (drop-cons ps i blank l, n) at (s .wanted m .1) in
+      record { wanted = λ h. clash (r .missing) h (ap (λ (z : Sought). z .missing) k); settled = λ h. ap (λ (z : Sought). z .place) k ∙ g })
+      (λ n.
+      let k : r ≡ found = e ∙ sym (sought-not id found (getD ps i blank) m n) in
+      let g : firstOf (named id) (drop (suc i) ps) ≡ whole = rw (drop-cons ps i blank l, n) at (s .wanted m .1) in
+      record { wanted = λ h. (ap (λ (z : Sought). z .place) k ∙ s .wanted m .0, rw add-one g); settled = λ h. clash (r .missing) (ap (λ (z : Sought). z .missing) k ∙ m) h }))
       (λ m.
-          let k : r ≡ found = e ∙ sym (sought-before id found (getD ps i blank) m) in
-          record { wanted = λ h. clash (r .missing) h (ap (λ (z : Sought). z .missing) k ∙ m); settled = λ h. ap (λ (z : Sought). z .place) k ∙ s .settled m })
+      let k : r ≡ found = e ∙ sym (sought-before id found (getD ps i blank) m) in
+      record { wanted = λ h. clash (r .missing) h (ap (λ (z : Sought). z .missing) k ∙ m); settled = λ h. ap (λ (z : Sought). z .place) k ∙ s .settled m })
 
   seeking-end : (n : ℕ) → length ps ≡ n → n ≤ i → found .place ≡ whole
   unfolding firstOf

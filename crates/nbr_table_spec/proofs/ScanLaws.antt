@@ -117,8 +117,8 @@ repeats-is ids [] = rw (known-of-none ids)
 repeats-is ids (p ∷ ps) =
     by-test (p .used)
     (λ u.
-        repeats-used p ps ids u ∙ ap (λ (b : Bool). within (p .id) ids || b) (repeats-is (ids ++ p .id ∷ []) ps ∙ ap (λ (b : Bool). b || twice ps) (known-of-snoc (p .id) ids ps))
-        ∙ regrouped (within (p .id) ids) (knownOf ids ps) (known (p .id) ps) (twice ps) ∙ sym (ap₂ _||_ (known-of-used p ps ids u) (twice-used p ps u)))
+    repeats-used p ps ids u ∙ ap (λ (b : Bool). within (p .id) ids || b) (repeats-is (ids ++ p .id ∷ []) ps ∙ ap (λ (b : Bool). b || twice ps) (known-of-snoc (p .id) ids ps))
+    ∙ regrouped (within (p .id) ids) (knownOf ids ps) (known (p .id) ps) (twice ps) ∙ sym (ap₂ _||_ (known-of-used p ps ids u) (twice-used p ps u)))
     (λ u. repeats-free p ps ids u ∙ repeats-is ids ps ∙ sym (ap₂ _||_ (known-of-free p ps ids u) (twice-free p ps u)))
 
 -- ---- the walk: the first n of ids are the identifiers in use of the first i places, and these break no rule
@@ -131,9 +131,6 @@ pub record Scanned (ids : List ℕ) (n i : ℕ) (ps : List Place) : Type 0 where
 pub scan-start : (ids : List ℕ) (ps : List Place) → Scanned ids 0 0 ps
 unfolding within knownOf
 scan-start ids ps = record { fit = refl; apart = repeats-is [] ps; there = λ id. refl; few = omega arith }
-
-
-
 
 module _ (ids : List ℕ) (n i : ℕ) (ps : List Place) (s : Scanned ids n i ps) (l : i < length ps) (x : Bool) (e : x ≡ unfit (getD ps i blank)) where
   pub scan-unfit : (q : Parent) → x ≡ true → true ≡ broken (record { places = ps; parent = q })
