@@ -37,14 +37,5 @@ returns-4 c = search (needs, settleWays)
 pub settle-spec : {M : Type 1} → statement M
 settle-spec =
     tie.close
-    (tie.spec
-    survey-requires
-    offer-requires
-    add-if3
-    take-requires
-    returns
-    cast-t14
-    returns-2
-    take-requires-2
-    returns-3
-    returns-4)
+    (tie.spec survey-requires offer-requires add-if3 take-requires returns cast-t14 returns-2 take-requires-2
+    returns-3 returns-4)

@@ -32,12 +32,5 @@ returns-3 c = replay-says _ _ _ (search (needs, runWays))
 pub replay-spec : {M : Type 1} → statement M
 replay-spec =
     tie.close
-    (tie.spec
-    is-broken-requires
-    refused-requires
-    returns
-    is-unfit-requires
-    refused-requires-2
-    returns-2
-    run-requires
+    (tie.spec is-broken-requires refused-requires returns is-unfit-requires refused-requires-2 returns-2 run-requires
     returns-3)

@@ -74,25 +74,6 @@ returns c = search (needs, runWays)
 pub run-spec : {M : Type 1} → statement M
 run-spec =
     tie.close
-    (tie.spec
-    Inv-loop
-    μ-loop
-    nothing-requires
-    loop-holds
-    shared-slice-read-kind
-    mul-step
-    shared-slice-read-step
-    mul-step-2
-    shared-slice-read-step-2
-    shared-slice-read-step-3
-    step-requires
-    add-i
-    counted-requires
-    mul-places
-    array-set-from-places
-    loop-less
-    loop-again
-    loop-less-2
-    loop-again-2
-    applies-requires
-    returns)
+    (tie.spec Inv-loop μ-loop nothing-requires loop-holds shared-slice-read-kind mul-step shared-slice-read-step
+    mul-step-2 shared-slice-read-step-2 shared-slice-read-step-3 step-requires add-i counted-requires mul-places
+    array-set-from-places loop-less loop-again loop-less-2 loop-again-2 applies-requires returns)

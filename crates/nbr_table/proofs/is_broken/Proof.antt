@@ -76,26 +76,6 @@ returns-4 c = search (needs, scanWays)
 pub is-broken-spec : {M : Type 1} → statement M
 is-broken-spec =
     tie.close
-    (tie.spec
-    Inv-loop
-    μ-loop
-    loop-holds
-    mul-place
-    array-copy-out-place
-    add-i
-    is-unfit-requires
-    returns
-    stands-requires
-    returns-2
-    mul-ids
-    array-write-ids
-    add-count
-    loop-less
-    loop-again
-    loop-less-2
-    loop-again-2
-    enum-known-parent
-    stands-requires-2
-    enum-told
-    returns-3
-    returns-4)
+    (tie.spec Inv-loop μ-loop loop-holds mul-place array-copy-out-place add-i is-unfit-requires returns
+    stands-requires returns-2 mul-ids array-write-ids add-count loop-less loop-again loop-less-2 loop-again-2
+    enum-known-parent stands-requires-2 enum-told returns-3 returns-4)

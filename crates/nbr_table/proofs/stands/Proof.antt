@@ -37,13 +37,4 @@ returns c = search (needs, standsWays)
 pub stands-spec : {M : Type 1} → statement M
 stands-spec =
     tie.close
-    (tie.spec
-    Inv-loop
-    μ-loop
-    loop-holds
-    mul-found
-    element-copy-out-found
-    add-j
-    loop-less
-    loop-again
-    returns)
+    (tie.spec Inv-loop μ-loop loop-holds mul-found element-copy-out-found add-j loop-less loop-again returns)

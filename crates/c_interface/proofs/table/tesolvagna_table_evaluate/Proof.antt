@@ -31,12 +31,5 @@ returns-2 c = search (needs, callWays)
 pub tesolvagna-table-evaluate-spec : {M : Type 1} → statement M
 tesolvagna-table-evaluate-spec =
     tie.close
-    (tie.spec
-    is-refused-requires
-    returns
-    parent-of-requires
-    settle-requires
-    mark-of-requires
-    id-of-requires
-    same-requires
-    returns-2)
+    (tie.spec is-refused-requires returns parent-of-requires settle-requires mark-of-requires id-of-requires
+    same-requires returns-2)

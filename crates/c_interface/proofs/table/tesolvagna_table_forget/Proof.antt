@@ -34,13 +34,5 @@ returns-2 c = search (needs, callWays)
 pub tesolvagna-table-forget-spec : {M : Type 1} → statement M
 tesolvagna-table-forget-spec =
     tie.close
-    (tie.spec
-    is-refused-requires
-    returns
-    forgetting-requires
-    stored-requires
-    parent-of-requires
-    without-requires
-    mark-of-requires
-    id-of-requires
-    returns-2)
+    (tie.spec is-refused-requires returns forgetting-requires stored-requires parent-of-requires without-requires
+    mark-of-requires id-of-requires returns-2)

@@ -28,11 +28,4 @@ returns-2 c = replay-form-says _ _ _ (search (needs, replayWays))
 pub tesolvagna-table-replay-spec : {M : Type 1} → statement M
 tesolvagna-table-replay-spec =
     tie.close
-    (tie.spec
-    is-parent-requires
-    parent-of-requires
-    replay-requires
-    mark-of-requires
-    id-of-requires
-    returns
-    returns-2)
+    (tie.spec is-parent-requires parent-of-requires replay-requires mark-of-requires id-of-requires returns returns-2)

@@ -37,14 +37,5 @@ returns-3 c = search (needs, advertiseWays)
 pub advertising-spec : {M : Type 1} → statement M
 advertising-spec =
     tie.close
-    (tie.spec
-    find-requires
-    mul-with-rank
-    array-copy-out-with-rank
-    with-rank-requires
-    returns
-    find-free-requires
-    newcomer-requires
-    returns-2
-    refuse-requires
-    returns-3)
+    (tie.spec find-requires mul-with-rank array-copy-out-with-rank with-rank-requires returns find-free-requires
+    newcomer-requires returns-2 refuse-requires returns-3)

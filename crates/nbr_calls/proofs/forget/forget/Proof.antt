@@ -28,11 +28,5 @@ returns-2 c = search (needs, forgetWays)
 pub forget-spec : {M : Type 1} → statement M
 forget-spec =
     tie.close
-    (tie.spec
-    is-broken-requires
-    returns
-    forgetting-requires
-    with-place-requires
-    without-requires
-    with-parent-requires
+    (tie.spec is-broken-requires returns forgetting-requires with-place-requires without-requires with-parent-requires
     returns-2)

@@ -37,14 +37,5 @@ returns-2 c = search (needs, reportWays)
 pub attempted-spec : {M : Type 1} → statement M
 attempted-spec =
     tie.close
-    (tie.spec
-    one-if-requires
-    add-if1
-    add-with-counters
-    add-with-counters-2
-    with-counters-requires
-    returns
-    add-with-counters-3
-    add-with-counters-4
-    with-counters-requires-2
-    returns-2)
+    (tie.spec one-if-requires add-if1 add-with-counters add-with-counters-2 with-counters-requires returns
+    add-with-counters-3 add-with-counters-4 with-counters-requires-2 returns-2)

@@ -52,19 +52,6 @@ returns-5 c = search (needs, reportWays)
 pub reporting-spec : {M : Type 1} → statement M
 reporting-spec =
     tie.close
-    (tie.spec
-    refuse-requires
-    returns
-    refuse-requires-2
-    returns-2
-    find-requires
-    mul-place
-    array-copy-out-place
-    is-unfit-requires
-    refuse-requires-3
-    returns-3
-    cast-attempted
-    attempted-requires
-    returns-4
-    refuse-requires-4
+    (tie.spec refuse-requires returns refuse-requires-2 returns-2 find-requires mul-place array-copy-out-place
+    is-unfit-requires refuse-requires-3 returns-3 cast-attempted attempted-requires returns-4 refuse-requires-4
     returns-5)

@@ -45,15 +45,5 @@ returns-2 c = (
 pub increment-spec : {M : Type 1} → statement M
 increment-spec =
     tie.close
-    (tie.spec
-    returns
-    wide-requires
-    wide-requires-2
-    mul-minus
-    mul-minus-2
-    minus-requires
-    mul-result
-    sub-result
-    add-result
-    div-result
-    returns-2)
+    (tie.spec returns wide-requires wide-requires-2 mul-minus mul-minus-2 minus-requires mul-result sub-result
+    add-result div-result returns-2)

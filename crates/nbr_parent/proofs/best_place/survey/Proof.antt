@@ -57,19 +57,5 @@ returns c = search (needs, surveyWays)
 pub survey-spec : {M : Type 1} → statement M
 survey-spec =
     tie.close
-    (tie.spec
-    Inv-loop
-    μ-loop
-    id-of-requires
-    mark-of-requires
-    blank-requires
-    loop-holds
-    mul-place
-    array-copy-out-place
-    offer-requires
-    lower-requires
-    sought-requires
-    add-i
-    loop-less
-    loop-again
-    returns)
+    (tie.spec Inv-loop μ-loop id-of-requires mark-of-requires blank-requires loop-holds mul-place array-copy-out-place
+    offer-requires lower-requires sought-requires add-i loop-less loop-again returns)

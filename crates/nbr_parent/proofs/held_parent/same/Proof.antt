@@ -37,14 +37,5 @@ returns-4 c = search (needs, sameWays)
 pub same-spec : {M : Type 1} → statement M
 same-spec =
     tie.close
-    (tie.spec
-    enum-told
-    enum-told-2
-    enum-told-3
-    enum-known-before
-    enum-told-4
-    enum-known-after
-    returns
-    returns-2
-    returns-3
-    returns-4)
+    (tie.spec enum-told enum-told-2 enum-told-3 enum-known-before enum-told-4 enum-known-after returns returns-2
+    returns-3 returns-4)

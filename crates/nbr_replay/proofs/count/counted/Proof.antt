@@ -28,11 +28,4 @@ returns-2 c = search (needs, countWays)
 pub counted-spec : {M : Type 1} → statement M
 counted-spec =
     tie.close
-    (tie.spec
-    returns
-    add-t5
-    add-t6
-    rises-with-requires
-    first-with-requires
-    eligible-with-requires
-    returns-2)
+    (tie.spec returns add-t5 add-t6 rises-with-requires first-with-requires eligible-with-requires returns-2)

@@ -28,11 +28,4 @@ returns-4 c = search (needs, logWays)
 pub is-unfit-spec : {M : Type 1} → statement M
 is-unfit-spec =
     tie.close
-    (tie.spec
-    are-equally-long-requires
-    returns
-    any-over-requires
-    returns-2
-    any-over-requires-2
-    returns-3
-    returns-4)
+    (tie.spec are-equally-long-requires returns any-over-requires returns-2 any-over-requires-2 returns-3 returns-4)

@@ -49,18 +49,6 @@ returns-4 c = search (needs, stepWays)
 pub step-spec : {M : Type 1} → statement M
 step-spec =
     tie.close
-    (tie.spec
-    advertising-requires
-    unseen-requires
-    returns
-    reporting-requires
-    unseen-requires-2
-    returns-2
-    forgetting-requires
-    without-requires
-    unseen-requires-3
-    returns-3
-    settle-requires
-    blank-requires
-    seen-requires
+    (tie.spec advertising-requires unseen-requires returns reporting-requires unseen-requires-2 returns-2
+    forgetting-requires without-requires unseen-requires-3 returns-3 settle-requires blank-requires seen-requires
     returns-4)

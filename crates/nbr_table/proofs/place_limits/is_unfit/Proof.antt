@@ -3,7 +3,6 @@ use Rattle.nbr_table_spec.proofs.PlaceLaws.{limitWays}
 use borrow.Author.Needs.{needs}
 use Rattle.nbr_table.proofs.place_limits.is_unfit.Statement.{statement}
 use Rattle.nbr_table.proofs.place_limits.is_unfit.Tie as tie
-use Rattle.nbr_table.proofs.place_limits.is_nonzero.Reads as is-nonzero-reads
 
 returns : tie.Need-returns
 returns c = search (needs, limitWays)

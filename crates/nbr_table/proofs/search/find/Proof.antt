@@ -45,15 +45,5 @@ returns-2 c = search (needs, searchWays)
 pub find-spec : {M : Type 1} → statement M
 find-spec =
     tie.close
-    (tie.spec
-    Inv-loop
-    μ-loop
-    loop-holds
-    mul-is-named
-    array-copy-out-is-named
-    is-named-requires
-    returns
-    add-i
-    loop-less
-    loop-again
-    returns-2)
+    (tie.spec Inv-loop μ-loop loop-holds mul-is-named array-copy-out-is-named is-named-requires returns add-i
+    loop-less loop-again returns-2)

@@ -45,15 +45,5 @@ returns-2 c = search (needs, searchWays)
 pub find-free-spec : {M : Type 1} → statement M
 find-free-spec =
     tie.close
-    (tie.spec
-    Inv-loop
-    μ-loop
-    loop-holds
-    mul-is-free
-    array-copy-out-is-free
-    is-free-requires
-    returns
-    add-i
-    loop-less
-    loop-again
-    returns-2)
+    (tie.spec Inv-loop μ-loop loop-holds mul-is-free array-copy-out-is-free is-free-requires returns add-i loop-less
+    loop-again returns-2)
