@@ -6,7 +6,7 @@ use libc::STDOUT_FILENO;
 fn main() {
     let mut frame = [0u8; 126];
     let length = io::read_full(STDIN_FILENO, &mut frame);
-    let mut room = [0u8; 128];
-    let end = text_line::bench_line(&frame[..length], &mut room);
-    io::write_all(STDOUT_FILENO, &room[..end]);
+    let mut buffer = [0u8; 128];
+    let end = text_line::bench_line(&frame[..length], &mut buffer);
+    io::write_all(STDOUT_FILENO, &buffer[..end]);
 }

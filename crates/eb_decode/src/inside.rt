@@ -36,7 +36,7 @@ fn is_timeslot_length(size: usize) -> bool
     false
 }
 
-// Whether a timeslot element that lies from an offset to another does so inside the frame.
+// Whether a timeslot element that goes from an offset to another lies inside the frame.
 fn timeslot_inside(s: &[u8], at: usize, to: usize) -> bool
     ensures { λ r. ⌜ r ≡ timeslotInside (now (s .entry)) at to ⌝ }
 {
@@ -75,7 +75,7 @@ fn is_joining_length(size: usize, proxied: u64) -> bool
     true
 }
 
-// Whether joining information that lies from an offset to another does so inside the frame.
+// Whether joining information that goes from an offset to another lies inside the frame.
 fn joining_inside(s: &[u8], at: usize, to: usize) -> bool
     ensures { λ r. ⌜ r ≡ joiningInside (now (s .entry)) at to ⌝ }
 {

@@ -30,7 +30,7 @@ pub free-not-named : (n : ℕ) (p : Place) → free p ≡ true → named n p ≡
 unfolding free
 free-not-named n p f h = clash (p .used) (named-says n p h .0) (not-true (p .used) f)
 
--- ---- a change of the first place that is so
+-- ---- a change of the first place that meets a test
 module _ (f : Place → Bool) (g : Place → Place) where
   pub fit-kept : ((p : Place) → f p ≡ true → unfit p ≡ false → unfit (g p) ≡ false) → (ps : List Place) → some unfit ps ≡ false → some unfit (changeFirst f g ps) ≡ false
   unfolding some changeFirst
@@ -71,7 +71,7 @@ module _ (f : Place → Bool) (g : Place → Place) where
     same-twice [] = refl
     same-twice (p ∷ ps) = split (f p) (λ e. rw e (rw (u p, i p))) (λ e. rw e (rw (same-known (p .id) ps, same-twice ps)))
 
--- a place q is put where the first place that is so stood, and its identifier stood nowhere
+-- a place q is put where the first place that meets a test stood, and its identifier stood nowhere
 module _ (f : Place → Bool) (q : Place) where
   pub twice-put : (ps : List Place) → (q .used ≡ true → known (q .id) ps ≡ false) → twice ps ≡ false → twice (changeFirst f (λ p. q) ps) ≡ false
   unfolding twice changeFirst some

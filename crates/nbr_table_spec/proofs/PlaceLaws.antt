@@ -189,7 +189,7 @@ module _ (f : Place → Bool) (ps : List Place) (i n : ℕ) (e₀ : i ≡ firstF
       subst (λ (k : ℕ). set ps k q ≡ changeFirst f g ps) (sym e)
       (subst (λ (z : Place). set ps (first f ps) z ≡ changeFirst f g ps) (sym (h ∙ ap (λ (k : ℕ). g (getD ps k blank)) e)) (set-first f g ps))
 
--- where no place is so, none is at any number
+-- where no place meets a test, none does at any number
 pub none-at : (f : Place → Bool) (ps : List Place) (i : ℕ) → f blank ≡ false → some f ps ≡ false → f (getD ps i blank) ≡ false
 unfolding some
 none-at f [] i b h = b
