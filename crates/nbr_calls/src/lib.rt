@@ -1,7 +1,6 @@
 // The four calls of a neighbour table. Each gives a number and the table afterwards; a refused call gives back the table that it got.
 // `advertising`, `reporting` and `forgetting` find out on 32 places that break no rule what a call stores, for callers that
 // have tested the table and keep it in another form.
-use nbr_metric_spec::Place;
 use nbr_table_spec::Change;
 use nbr_table_spec::PLACES;
 ghost use mathlib.Core.Path.{_≡_};

@@ -17,17 +17,17 @@ free p = not (p .used)
 unfoldable pub named : ℕ → Place → Bool
 named n p = p .used && eqb (p .id) n
 
--- some place meets a test
+-- some place passes the test f
 unfoldable pub some : (Place → Bool) → List Place → Bool
 some f [] = false
 some f (p ∷ ps) = f p || some f ps
 
--- the lowest-numbered place that meets a test, and the blank place if none does
+-- the lowest-numbered place that passes the test f, and the blank place if none does
 unfoldable pub firstOf : (Place → Bool) → List Place → Place
 firstOf f [] = blank
 firstOf f (p ∷ ps) = cond (f p) p (firstOf f ps)
 
--- the lowest-numbered place that meets a test becomes what g makes of it
+-- the lowest-numbered place that passes the test f becomes what g makes of it
 unfoldable pub changeFirst : (Place → Bool) → (Place → Place) → List Place → List Place
 changeFirst f g [] = []
 changeFirst f g (p ∷ ps) = cond (f p) (g p ∷ ps) (p ∷ changeFirst f g ps)

@@ -5,7 +5,7 @@ use mathlib.Core.List.{List, [], _∷_}
 use lib.ListN.{drop}
 use Rattle.nbr_metric_spec.specs.declared.Place.{Place}
 
--- the number of the first place that meets a test, and how many places there are if none does
+-- the number of the first place that passes the test f, and how many places there are if none does
 unfoldable pub first : (Place → Bool) → List Place → ℕ
 first f [] = zero
 first f (p ∷ ps) = cond (f p) zero (suc (first f ps))
