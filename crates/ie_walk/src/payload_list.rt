@@ -1,8 +1,10 @@
 // The walk over the payload list. The reader of the list and the reader of a group call each other: at a group the first goes into it,
-// and at the group's end the second goes back to the list.
+// and at the group's end the second goes back to the list. It returns to the reader that called it if more bytes follow, and calls it
+// only where the group ends the list and nothing is left to read: so calls do not nest with the number of groups in a frame, and the
+// stack that a frame takes does not grow with it.
 ghost use mathlib.Core.Path.{_≡_};
 ghost use Prim.Native.Nat.{_≤_};
-ghost use Rattle.ie_walk_spec.specs.Walk.{seenOf, taken, stopped, skipOne, partTaken, OuterIs, GroupIs, payloadList};
+ghost use Rattle.ie_walk_spec.specs.Walk.{seenOf, taken, stopped, skipOne, partTaken, OuterIs, GroupGives, payloadList};
 use ie_step_spec::InnerStep;
 use ie_step_spec::OuterStep;
 use ie_verdict_spec::HOPPING;
@@ -11,6 +13,7 @@ use ie_verdict_spec::SLOTFRAME;
 use ie_verdict_spec::SYNCHRONIZATION;
 use ie_verdict_spec::Seen;
 use ie_verdict_spec::TIMESLOT;
+use ie_walk_spec::GroupEnd;
 use ie_walk_spec::Walk;
 use refusal::DONE;
 
@@ -111,7 +114,15 @@ fn outer(s: &[u8], at: usize, end: usize, walk: Walk) -> Walk
                 return noted;
             }
             OuterStep::Group(from, to) => {
-                return group(s, from, to, end, noted);
+                match group(s, from, to, end, noted) {
+                    GroupEnd::Whole(read) => {
+                        return read;
+                    }
+                    GroupEnd::Passed(read) => {
+                        noted = read;
+                        i = to;
+                    }
+                }
             }
             OuterStep::Joining(from, to) => {
                 noted = part(s, noted, JOINING, from, to, i);
@@ -131,27 +142,30 @@ fn outer(s: &[u8], at: usize, end: usize, walk: Walk) -> Walk
     }
 }
 
-// An MLME group from an offset of it to its end, and behind it the payload list.
-fn group(s: &[u8], at: usize, to: usize, end: usize, walk: Walk) -> Walk
+// An MLME group from an offset of it to its end. Behind it the payload list goes on; if it is at its end there, that is read too.
+fn group(s: &[u8], at: usize, to: usize, end: usize, walk: Walk) -> GroupEnd
     requires { ⌜ (at ≤ to) × (to ≤ end) ⌝ }
-    ensures { λ r. ⌜ GroupIs (now (s .entry)) at to end walk r ⌝ }
+    ensures { λ r. ⌜ GroupGives (now (s .entry)) at to end walk r ⌝ }
 {
     let mut i = at;
     let mut noted = walk;
     loop {
         match ie_step::inner_step::inner_step(s, i, to) {
             InnerStep::Back => {
-                return outer(s, to, end, noted);
+                if to < end {
+                    return GroupEnd::Passed(noted);
+                }
+                return GroupEnd::Whole(outer(s, to, end, noted));
             }
             InnerStep::Part(kind, from, next) => {
                 noted = part(s, noted, kind, from, next, i);
                 if noted.fault != 0 {
-                    return noted;
+                    return GroupEnd::Whole(noted);
                 }
                 i = next;
             }
             InnerStep::Fault(number) => {
-                return stop(noted, number, i);
+                return GroupEnd::Whole(stop(noted, number, i));
             }
         }
     }

@@ -16,9 +16,11 @@ use Rattle.ie_step_spec.specs.declared.OuterStep.{OuterStep}
 use Rattle.ie_step_spec.specs.declared.OuterStep.the-variants as outer
 use Rattle.ie_step_spec.specs.declared.InnerStep.{InnerStep}
 use Rattle.ie_step_spec.specs.declared.InnerStep.the-variants as inner
-use Rattle.ie_walk_spec.specs.Walk.{bump, skipOne, stopped, partTaken, headerGo, headerList, outerGo, groupGo, OuterIs, GroupIs, payloadList}
+use Rattle.ie_walk_spec.specs.Walk.{bump, skipOne, stopped, partTaken, headerGo, headerList, outerGo, groupGo, OuterIs, GroupIs, GroupGives, payloadList}
 use Rattle.ie_walk_spec.specs.declared.Walk.{Walk}
 use Rattle.ie_walk_spec.specs.declared.HeaderListEnd.{HeaderListEnd}
+use Rattle.ie_walk_spec.specs.declared.GroupEnd.{GroupEnd}
+use Rattle.ie_walk_spec.specs.declared.GroupEnd.the-variants as end-of
 
 -- ---- the header list
 pub record HeaderLeads (s : List ℕ) (at end i n : ℕ) : Type 0 where
@@ -107,6 +109,25 @@ module _ (s : List ℕ) (at end : ℕ) (w : Walk) (i : ℕ) (q : Walk) (o : Oute
       unfolding outerGo GroupIs
       outer-enter r go leads = leads .gives r (outer-one s i end q r (λ bound lt. rw (sym is ∙ e, outerGo) (go bound (omega (arith, group-inside)))))
 
+      pub passed-less : end - to < end - i
+      passed-less = omega (arith, group-inside)
+
+      module _ (g : GroupEnd) (gives : GroupGives s from to end q g) (r : Walk) where
+        pub outer-whole : g ≡ end-of.Whole r → OuterLeads s at end w i q → OuterIs s at end w r
+        unfolding GroupGives
+        outer-whole k leads = outer-enter r (rw k at gives) leads
+
+        pub outer-passed : g ≡ end-of.Passed r → OuterLeads s at end w i q → OuterLeads s at end w to r
+        unfolding GroupGives
+        outer-passed k leads = record {
+          from = omega (arith, group-inside, leads .from);
+          within = group-inside .2;
+          gives = λ x go. outer-enter x (behind x go) leads;
+        }
+          where
+            behind : (x : Walk) → OuterIs s to end r x → GroupIs s from to end q x
+            behind = rw k at gives
+
     module _ (e : o ≡ outer.Joining from to) where
       joining-inside : (from ≡ i + 2 + 1) × (from ≤ to) × (to ≤ end)
       joining-inside = rw e at within
@@ -165,8 +186,16 @@ module _ (s : List ℕ) (at to end : ℕ) (w : Walk) (i : ℕ) (q : Walk) (o : I
   unfolding groupGo OuterIs
   group-back r e go leads = leads .gives r (group-one s i to end q r (λ bound lt. rw (sym is ∙ e, groupGo) (go bound (omega (arith, leads .within, leads .fits)))))
 
-  pub group-fault : (number : ℕ) (r : Walk) → o ≡ inner.Fault number → r ≡ stopped q number i → GroupLeads s at to end w i q → GroupIs s at to end w r
-  unfolding groupGo
+  pub group-whole : (r : Walk) → o ≡ inner.Back → OuterIs s to end q r → GroupLeads s at to end w i q → GroupGives s at to end w (end-of.Whole r)
+  unfolding GroupGives
+  group-whole r e go leads = group-back r e go leads
+
+  pub group-passed : o ≡ inner.Back → GroupLeads s at to end w i q → GroupGives s at to end w (end-of.Passed q)
+  unfolding GroupGives
+  group-passed e leads = λ r go. group-back r e go leads
+
+  pub group-fault : (number : ℕ) (r : Walk) → o ≡ inner.Fault number → r ≡ stopped q number i → GroupLeads s at to end w i q → GroupGives s at to end w (end-of.Whole r)
+  unfolding groupGo GroupGives
   group-fault number r e k leads = leads .gives r (group-one s i to end q r (λ bound _. rw (sym is ∙ e, groupGo) k))
 
   module _ (kind from next : ℕ) (e : o ≡ inner.Part kind from next) where
@@ -178,8 +207,8 @@ module _ (s : List ℕ) (at to end : ℕ) (w : Walk) (i : ℕ) (q : Walk) (o : I
       part-less = omega (arith, part-inside)
 
     module _ (t : Walk) (k : t ≡ partTaken s q kind from next i) where
-      pub part-fault : (t .fault ≡ 0 → ⊥) → GroupLeads s at to end w i q → GroupIs s at to end w t
-      unfolding groupGo
+      pub part-fault : (t .fault ≡ 0 → ⊥) → GroupLeads s at to end w i q → GroupGives s at to end w (end-of.Whole t)
+      unfolding groupGo GroupGives
       part-fault bad leads = leads .gives t (group-one s i to end q t (λ bound _. rw (sym is ∙ e, groupGo, ← k) (if-ne _ _ _ _ bad refl)))
 
       pub part-turn : innerWithin o i to → t .fault ≡ 0 → GroupLeads s at to end w i q → GroupLeads s at to end w next t
@@ -199,4 +228,4 @@ pub payload-is : (s : List ℕ) (at end : ℕ) (w r : Walk) → at ≤ end → O
 unfolding payloadList OuterIs
 payload-is s at end w r h go = go (suc (2 * end)) (omega arith)
 
-pub ruleset lists = (outer-start, outer-none, outer-fault, enter-low, enter-high, enter-less, outer-enter, joining-less, joining-fault, joining-turn, skip-less, skip-turn, group-start, back-less, group-back, group-fault, part-less, part-fault, part-turn, payload-past, payload-is)
+pub ruleset lists = (outer-start, outer-none, outer-fault, enter-low, enter-high, enter-less, passed-less, outer-whole, outer-passed, joining-less, joining-fault, joining-turn, skip-less, skip-turn, group-start, back-less, group-whole, group-passed, group-fault, part-less, part-fault, part-turn, payload-past, payload-is)

@@ -14,6 +14,8 @@ use Rattle.ie_step_spec.specs.declared.OuterStep.the-variants as outer
 use Rattle.ie_step_spec.specs.declared.InnerStep.the-variants as inner
 use Rattle.ie_walk_spec.specs.declared.Walk.{Walk}
 use Rattle.ie_walk_spec.specs.declared.HeaderListEnd.{HeaderListEnd}
+use Rattle.ie_walk_spec.specs.declared.GroupEnd.{GroupEnd}
+use Rattle.ie_walk_spec.specs.declared.GroupEnd.the-variants as end-of
 
 -- one more, to 255: no frame has as many elements
 unfoldable pub bump : ℕ → ℕ
@@ -126,6 +128,12 @@ OuterIs s at end walk r = (bound : ℕ) → 2 * (end - at) < bound → r ≡ out
 -- the same of a group
 unfoldable pub GroupIs : List ℕ → ℕ → ℕ → ℕ → Walk → Walk → Type 0
 GroupIs s at to end walk r = (bound : ℕ) → 2 * (end - at) + 1 < bound → r ≡ groupGo bound s at to end walk
+
+-- how the code goes: the reader of a group has what the whole gives, or it has passed the group, and what the list behind gives from
+-- there, the whole gives
+unfoldable pub GroupGives : List ℕ → ℕ → ℕ → ℕ → Walk → GroupEnd → Type 0
+GroupGives s at to end walk (end-of.Whole r) = GroupIs s at to end walk r
+GroupGives s at to end walk (end-of.Passed noted) = (r : Walk) → OuterIs s to end noted r → GroupIs s at to end walk r
 
 -- the payload list from an offset to an end, with what was noted before
 unfoldable pub payloadList : List ℕ → ℕ → ℕ → Walk → Walk

@@ -15,6 +15,12 @@ pub struct Walk {
     pub joiningend: usize,
 }
 
+// How the reader of an MLME group ended: with what the whole list gives, or behind the group, where the payload list goes on.
+pub enum GroupEnd {
+    Whole(Walk),
+    Passed(Walk),
+}
+
 // How the header list ended: its fault and the fault's offset, how many elements were skipped, and where the payload list begins, 0 if
 // none follows.
 pub struct HeaderListEnd {

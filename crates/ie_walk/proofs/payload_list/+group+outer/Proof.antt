@@ -56,11 +56,14 @@ group-inner-step-requires t c κs = search (needs, lists)
 group-enum-told : (t : ℕ) → group-lts.Need-enum-told (group-calls t) (group-at t) group.Post group-Inv-loop group-μ-loop
 group-enum-told t c = search (needs, lists)
 
+group-returns : (t : ℕ) → group-lts.Need-returns (group-calls t) (group-at t) group.Post group-Inv-loop group-μ-loop
+group-returns t c = search (needs, lists)
+
 group-outer-requires : (t : ℕ) → group-lts.Need-outer-requires (group-calls t) (group-at t) group.Post group-Inv-loop group-μ-loop
 group-outer-requires t c κs = search (needs, lists)
 
-group-returns : (t : ℕ) → group-lts.Need-returns (group-calls t) (group-at t) group.Post group-Inv-loop group-μ-loop
-group-returns t c = search (needs, lists)
+group-returns-2 : (t : ℕ) → group-lts.Need-returns-2 (group-calls t) (group-at t) group.Post group-Inv-loop group-μ-loop
+group-returns-2 t c = search (needs, lists)
 
 group-enum-known-kind : (t : ℕ) → group-lts.Need-enum-known-kind (group-calls t) (group-at t) group.Post group-Inv-loop group-μ-loop
 group-enum-known-kind t c = search (needs, lists)
@@ -68,8 +71,8 @@ group-enum-known-kind t c = search (needs, lists)
 group-part-requires : (t : ℕ) → group-lts.Need-part-requires (group-calls t) (group-at t) group.Post group-Inv-loop group-μ-loop
 group-part-requires t c κs = search (needs, lists)
 
-group-returns-2 : (t : ℕ) → group-lts.Need-returns-2 (group-calls t) (group-at t) group.Post group-Inv-loop group-μ-loop
-group-returns-2 t c = search (needs, lists)
+group-returns-3 : (t : ℕ) → group-lts.Need-returns-3 (group-calls t) (group-at t) group.Post group-Inv-loop group-μ-loop
+group-returns-3 t c = search (needs, lists)
 
 group-loop-less : (t : ℕ) → group-lts.Need-loop-less (group-calls t) (group-at t) group.Post group-Inv-loop group-μ-loop
 group-loop-less t c = search (needs, lists)
@@ -83,8 +86,8 @@ group-enum-known-number t c = search (needs, lists)
 group-stop-requires : (t : ℕ) → group-lts.Need-stop-requires (group-calls t) (group-at t) group.Post group-Inv-loop group-μ-loop
 group-stop-requires t c κs = search (needs, lists)
 
-group-returns-3 : (t : ℕ) → group-lts.Need-returns-3 (group-calls t) (group-at t) group.Post group-Inv-loop group-μ-loop
-group-returns-3 t c = search (needs, lists)
+group-returns-4 : (t : ℕ) → group-lts.Need-returns-4 (group-calls t) (group-at t) group.Post group-Inv-loop group-μ-loop
+group-returns-4 t c = search (needs, lists)
 
 -- what is known of the callees of `outer`
 abbrev outer-calls : ℕ → outer-lts.Claims
@@ -114,8 +117,20 @@ outer-enum-known-from t c = search (needs, lists)
 outer-group-requires : (t : ℕ) → outer-lts.Need-group-requires (outer-calls t) (outer-at t) outer.Post outer-Inv-loop outer-μ-loop
 outer-group-requires t c κs = search (needs, lists)
 
+outer-enum-known-read : (t : ℕ) → outer-lts.Need-enum-known-read (outer-calls t) (outer-at t) outer.Post outer-Inv-loop outer-μ-loop
+outer-enum-known-read t c = search (needs, lists)
+
 outer-returns-2 : (t : ℕ) → outer-lts.Need-returns-2 (outer-calls t) (outer-at t) outer.Post outer-Inv-loop outer-μ-loop
 outer-returns-2 t c = search (needs, lists)
+
+outer-enum-known-read-2 : (t : ℕ) → outer-lts.Need-enum-known-read-2 (outer-calls t) (outer-at t) outer.Post outer-Inv-loop outer-μ-loop
+outer-enum-known-read-2 t c = search (needs, lists)
+
+outer-loop-less : (t : ℕ) → outer-lts.Need-loop-less (outer-calls t) (outer-at t) outer.Post outer-Inv-loop outer-μ-loop
+outer-loop-less t c = search (needs, lists)
+
+outer-loop-again : (t : ℕ) → outer-lts.Need-loop-again (outer-calls t) (outer-at t) outer.Post outer-Inv-loop outer-μ-loop
+outer-loop-again t c = search (needs, lists)
 
 outer-enum-known-from-2 : (t : ℕ) → outer-lts.Need-enum-known-from-2 (outer-calls t) (outer-at t) outer.Post outer-Inv-loop outer-μ-loop
 outer-enum-known-from-2 t c = search (needs, lists)
@@ -126,11 +141,11 @@ outer-part-requires t c κs = search (needs, lists)
 outer-returns-3 : (t : ℕ) → outer-lts.Need-returns-3 (outer-calls t) (outer-at t) outer.Post outer-Inv-loop outer-μ-loop
 outer-returns-3 t c = search (needs, lists)
 
-outer-loop-less : (t : ℕ) → outer-lts.Need-loop-less (outer-calls t) (outer-at t) outer.Post outer-Inv-loop outer-μ-loop
-outer-loop-less t c = search (needs, lists)
+outer-loop-less-2 : (t : ℕ) → outer-lts.Need-loop-less-2 (outer-calls t) (outer-at t) outer.Post outer-Inv-loop outer-μ-loop
+outer-loop-less-2 t c = search (needs, lists)
 
-outer-loop-again : (t : ℕ) → outer-lts.Need-loop-again (outer-calls t) (outer-at t) outer.Post outer-Inv-loop outer-μ-loop
-outer-loop-again t c = search (needs, lists)
+outer-loop-again-2 : (t : ℕ) → outer-lts.Need-loop-again-2 (outer-calls t) (outer-at t) outer.Post outer-Inv-loop outer-μ-loop
+outer-loop-again-2 t c = search (needs, lists)
 
 outer-enum-known-to : (t : ℕ) → outer-lts.Need-enum-known-to (outer-calls t) (outer-at t) outer.Post outer-Inv-loop outer-μ-loop
 outer-enum-known-to t c = search (needs, lists)
@@ -138,11 +153,11 @@ outer-enum-known-to t c = search (needs, lists)
 outer-skip-one-requires : (t : ℕ) → outer-lts.Need-skip-one-requires (outer-calls t) (outer-at t) outer.Post outer-Inv-loop outer-μ-loop
 outer-skip-one-requires t c κs = search (needs, lists)
 
-outer-loop-less-2 : (t : ℕ) → outer-lts.Need-loop-less-2 (outer-calls t) (outer-at t) outer.Post outer-Inv-loop outer-μ-loop
-outer-loop-less-2 t c = search (needs, lists)
+outer-loop-less-3 : (t : ℕ) → outer-lts.Need-loop-less-3 (outer-calls t) (outer-at t) outer.Post outer-Inv-loop outer-μ-loop
+outer-loop-less-3 t c = search (needs, lists)
 
-outer-loop-again-2 : (t : ℕ) → outer-lts.Need-loop-again-2 (outer-calls t) (outer-at t) outer.Post outer-Inv-loop outer-μ-loop
-outer-loop-again-2 t c = search (needs, lists)
+outer-loop-again-3 : (t : ℕ) → outer-lts.Need-loop-again-3 (outer-calls t) (outer-at t) outer.Post outer-Inv-loop outer-μ-loop
+outer-loop-again-3 t c = search (needs, lists)
 
 outer-enum-known-number : (t : ℕ) → outer-lts.Need-enum-known-number (outer-calls t) (outer-at t) outer.Post outer-Inv-loop outer-μ-loop
 outer-enum-known-number t c = search (needs, lists)
@@ -171,16 +186,17 @@ pub +group+outer-spec : {M : Type 1} → statement M
     (group-loop-holds t)
     (group-inner-step-requires t)
     (group-enum-told t)
-    (group-outer-requires t)
     (group-returns t)
+    (group-outer-requires t)
+    (group-returns-2 t)
     (group-enum-known-kind t)
     (group-part-requires t)
-    (group-returns-2 t)
+    (group-returns-3 t)
     (group-loop-less t)
     (group-loop-again t)
     (group-enum-known-number t)
     (group-stop-requires t)
-    (group-returns-3 t))
+    (group-returns-4 t))
     λ t. outer-lts.spec (
       outer-step-reads.Asked,
       outer-step-reads.Learnt,
@@ -203,16 +219,20 @@ pub +group+outer-spec : {M : Type 1} → statement M
     (outer-returns t)
     (outer-enum-known-from t)
     (outer-group-requires t)
+    (outer-enum-known-read t)
     (outer-returns-2 t)
+    (outer-enum-known-read-2 t)
+    (outer-loop-less t)
+    (outer-loop-again t)
     (outer-enum-known-from-2 t)
     (outer-part-requires t)
     (outer-returns-3 t)
-    (outer-loop-less t)
-    (outer-loop-again t)
-    (outer-enum-known-to t)
-    (outer-skip-one-requires t)
     (outer-loop-less-2 t)
     (outer-loop-again-2 t)
+    (outer-enum-known-to t)
+    (outer-skip-one-requires t)
+    (outer-loop-less-3 t)
+    (outer-loop-again-3 t)
     (outer-enum-known-number t)
     (outer-stop-requires t)
     (outer-returns-4 t)
