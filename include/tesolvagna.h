@@ -94,7 +94,7 @@ enum tesolvagna_option {
     TESOLVAGNA_OPTION_TIMEKEEPING = 8
 };
 
-/* The timings of a timeslot template by their places in `timings`, each in microseconds, with the standard's names. */
+/* The timings of a timeslot template by their indices in `timings`, each in microseconds, with the standard's names. */
 enum tesolvagna_timing {
     /* macTsCcaOffset */
     TESOLVAGNA_TIMING_CCA_OFFSET = 0,
@@ -513,7 +513,7 @@ struct tesolvagna_slot {
     uint8_t action;
     /* The channel, 11 to 26; 0 asleep. */
     uint8_t channel;
-    /* The link's place in the list, counted from 0; 0 asleep. */
+    /* The link's index in the list, counted from 0; 0 asleep. */
     uint8_t index;
 };
 
