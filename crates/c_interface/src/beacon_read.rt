@@ -4,8 +4,6 @@ ghost use Rattle.eb_read_spec.specs.Read.{readFrame};
 ghost use Rattle.eb_read_spec.specs.Form.{formReading};
 ghost use Rattle.eb_read_spec.specs.Network.{networkSpan};
 use eb_read_spec::FormReading;
-use eb_read_spec::Span;
-use refusal::DONE;
 
 // The number of a frame and its record, which is the blank one if the frame is refused.
 #[no_mangle]
@@ -13,7 +11,7 @@ pub extern "C" fn tesolvagna_beacon_read(s: &[u8]) -> FormReading
     ensures { λ r. ⌜ r ≡ formReading (readFrame (now (s .entry))) ⌝ }
 {
     let found = eb_examine::examine(s);
-    if found.number != DONE {
+    if found.number != refusal::DONE {
         return FormReading {
             number: found.number,
             beacon: eb_decode::blank_form(),
@@ -21,14 +19,14 @@ pub extern "C" fn tesolvagna_beacon_read(s: &[u8]) -> FormReading
     }
     let walk = found.walk;
     FormReading {
-        number: DONE,
+        number: refusal::DONE,
         beacon: eb_decode::decode(s, walk),
     }
 }
 
 // Where the network ID of a frame lies in its bytes: 0 and 0 if the frame is refused, or has none, or one of no bytes.
 #[no_mangle]
-pub extern "C" fn tesolvagna_beacon_network_id(s: &[u8]) -> Span
+pub extern "C" fn tesolvagna_beacon_network_id(s: &[u8]) -> eb_read_spec::Span
     ensures { λ r. ⌜ r ≡ networkSpan (now (s .entry)) ⌝ }
 {
     eb_read::network::network_span(s)

@@ -5,7 +5,6 @@ ghost use Rattle.eb_write_spec.specs.Claims.{FormNumbers};
 ghost use Rattle.eb_write_spec.specs.Form.{formWritten, bufferAfterForm};
 use eb_record_spec::BeaconForm;
 use eb_write_spec::Written;
-use refusal::OUT_OF_LIMITS;
 
 // Writes a record's frame at the start of a lent buffer. Refused in this order: a form that is no record's, or a record outside the limits
 // (8); a frame longer than 125 bytes (1); a buffer shorter than the frame (9). A refused call leaves the buffer as it was, with length 0.
@@ -17,7 +16,7 @@ pub extern "C" fn tesolvagna_beacon_write(buffer: &mut [u8], beacon: BeaconForm)
 {
     if !eb_record::is_beacon(beacon) {
         return Written {
-            number: OUT_OF_LIMITS,
+            number: refusal::OUT_OF_LIMITS,
             length: 0,
         };
     }

@@ -1,5 +1,4 @@
 // The increment and the join metric for C.
-use nbr_metric_spec::JoinAnswer;
 ghost use mathlib.Core.Path.{_≡_};
 ghost use Rattle.nbr_metric_spec.specs.Metric.{increment};
 ghost use Rattle.nbr_metric_spec.specs.JoinMetric.{joinMetric};
@@ -14,7 +13,7 @@ pub extern "C" fn tesolvagna_increment(attempts: u16, acked: u16) -> u32
 
 // The join metric of a rank; a rank outside 256 to 65534 is refused with 8.
 #[no_mangle]
-pub extern "C" fn tesolvagna_join_metric(rank: u32) -> JoinAnswer
+pub extern "C" fn tesolvagna_join_metric(rank: u32) -> nbr_metric_spec::JoinAnswer
     ensures { λ r. ⌜ r ≡ joinMetric rank ⌝ }
 {
     nbr_metric::join_metric::join_metric(rank)

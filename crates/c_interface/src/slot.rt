@@ -3,18 +3,16 @@ ghost use mathlib.Core.Path.{_≡_};
 ghost use Rattle.slot_spec.specs.Hopping.{channelOf};
 ghost use Rattle.slot_spec.specs.Slot.{decision};
 ghost use Rattle.slot_spec.specs.Answer.{answerOf};
-use eb_record_spec::Link;
-use slot_spec::SlotAnswer;
 
 // The slot decision over a lent list of links.
 #[no_mangle]
 pub extern "C" fn tesolvagna_slot_decide(
-    links: &[Link],
+    links: &[eb_record_spec::Link],
     size: u32,
     id: u32,
     asn: u64,
     waits: bool,
-) -> SlotAnswer
+) -> slot_spec::SlotAnswer
     ensures { λ r. ⌜ r ≡ answerOf (decision (now (links .entry)) size id asn waits) ⌝ }
 {
     slot_decision::slots::answer(slot_decision::decide(links, size, id, asn, waits))

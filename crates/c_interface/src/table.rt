@@ -1,19 +1,9 @@
 // The neighbour table for C: a table goes in by value and comes back by value with the call's number, also where the call is refused.
-use c_table::is_parent;
-use c_table::is_refused;
-use c_table::parent_of;
-use c_table::stored;
 use c_table_spec::EvaluationAnswer;
 use c_table_spec::ReplayAnswer;
 use c_table_spec::TableAnswer;
 use c_table_spec::TableForm;
-use nbr_metric_spec::INFINITE_RANK;
-use nbr_parent::held_parent::id_of;
-use nbr_parent::held_parent::mark_of;
-use nbr_parent::held_parent::same;
 use nbr_table_spec::Table;
-use refusal::DONE;
-use refusal::OUT_OF_LIMITS;
 ghost use mathlib.Core.Path.{_≡_};
 ghost use mathlib.Core.Bool.{true};
 ghost use Prim.Native.Nat.{_+_, _*_, _≤_};
@@ -39,13 +29,13 @@ pub extern "C" fn tesolvagna_table_advertise(table: TableForm, id: u64, rank: u1
     ensures { λ r. ⌜ r ≡ advertisedForm table id rank ⌝ }
 {
     let places = table.places;
-    if is_refused(places, table.held, table.parent) {
+    if c_table::is_refused(places, table.held, table.parent) {
         return TableAnswer {
-            number: OUT_OF_LIMITS,
+            number: refusal::OUT_OF_LIMITS,
             table,
         };
     }
-    stored(table, nbr_calls::advertise::advertising(places, id, rank))
+    c_table::stored(table, nbr_calls::advertise::advertising(places, id, rank))
 }
 
 // Counts 1 to 4 attempts to reach a neighbour: 8 for a table that is refused and for other numbers, 10 for an unknown neighbour.
@@ -59,13 +49,13 @@ pub extern "C" fn tesolvagna_table_report(
     ensures { λ r. ⌜ r ≡ reportedForm table id attempts acked ⌝ }
 {
     let places = table.places;
-    if is_refused(places, table.held, table.parent) {
+    if c_table::is_refused(places, table.held, table.parent) {
         return TableAnswer {
-            number: OUT_OF_LIMITS,
+            number: refusal::OUT_OF_LIMITS,
             table,
         };
     }
-    stored(
+    c_table::stored(
         table,
         nbr_calls::report::reporting(places, id, attempts, acked),
     )
@@ -77,17 +67,17 @@ pub extern "C" fn tesolvagna_table_forget(table: TableForm, id: u64) -> TableAns
     ensures { λ r. ⌜ r ≡ forgottenForm table id ⌝ }
 {
     let places = table.places;
-    if is_refused(places, table.held, table.parent) {
+    if c_table::is_refused(places, table.held, table.parent) {
         return TableAnswer {
-            number: OUT_OF_LIMITS,
+            number: refusal::OUT_OF_LIMITS,
             table,
         };
     }
-    let answer = stored(table, nbr_calls::forget::forgetting(places, id));
-    let left = nbr_calls::forget::without(parent_of(table.held, table.parent), id);
+    let answer = c_table::stored(table, nbr_calls::forget::forgetting(places, id));
+    let left = nbr_calls::forget::without(c_table::parent_of(table.held, table.parent), id);
     let mut changed = answer.table;
-    changed.held = mark_of(left);
-    changed.parent = id_of(left);
+    changed.held = nbr_parent::held_parent::mark_of(left);
+    changed.parent = nbr_parent::held_parent::id_of(left);
     TableAnswer {
         number: answer.number,
         table: changed,
@@ -100,28 +90,28 @@ pub extern "C" fn tesolvagna_table_evaluate(table: TableForm) -> EvaluationAnswe
     ensures { λ r. ⌜ r ≡ evaluatedForm table ⌝ }
 {
     let places = table.places;
-    if is_refused(places, table.held, table.parent) {
+    if c_table::is_refused(places, table.held, table.parent) {
         return EvaluationAnswer {
-            number: OUT_OF_LIMITS,
+            number: refusal::OUT_OF_LIMITS,
             changed: false,
-            rank: INFINITE_RANK,
+            rank: nbr_metric_spec::INFINITE_RANK,
             held: table.held,
             parent: table.parent,
             table,
         };
     }
-    let before = parent_of(table.held, table.parent);
+    let before = c_table::parent_of(table.held, table.parent);
     let settlement = nbr_parent::settle(places, before);
     let choice = settlement.choice;
     let chosen = choice.parent;
-    let held = mark_of(chosen);
-    let parent = id_of(chosen);
+    let held = nbr_parent::held_parent::mark_of(chosen);
+    let parent = nbr_parent::held_parent::id_of(chosen);
     let mut changed = table;
     changed.held = held;
     changed.parent = parent;
     EvaluationAnswer {
-        number: DONE,
-        changed: !same(before, chosen),
+        number: refusal::DONE,
+        changed: !nbr_parent::held_parent::same(before, chosen),
         rank: choice.rank,
         held,
         parent,
@@ -144,9 +134,9 @@ pub extern "C" fn tesolvagna_table_replay(
     ensures few { λ r. ⌜ (r .applies ≡ true → r .rises ≡ 0 → r .changes ≤ 101) ⌝ }
     ensures accepted { λ r. ⌜ (r .number ≡ 0 → noneRefusedInC (formEvaluations table (calls (logOf (now (kinds .entry)) (now (ids .entry)) (now (values .entry)) (now (flags .entry))))) ≡ true) ⌝ }
 {
-    if is_parent(table.held, table.parent) {
+    if c_table::is_parent(table.held, table.parent) {
         let places = table.places;
-        let parent = parent_of(table.held, table.parent);
+        let parent = c_table::parent_of(table.held, table.parent);
         let outcome = nbr_replay::replay(Table { places, parent }, kinds, ids, values, flags);
         let ended = outcome.table;
         let left = ended.parent;
@@ -161,13 +151,13 @@ pub extern "C" fn tesolvagna_table_replay(
             last: outcome.last,
             table: TableForm {
                 places: after,
-                held: mark_of(left),
-                parent: id_of(left),
+                held: nbr_parent::held_parent::mark_of(left),
+                parent: nbr_parent::held_parent::id_of(left),
             },
         };
     }
     ReplayAnswer {
-        number: OUT_OF_LIMITS,
+        number: refusal::OUT_OF_LIMITS,
         applies: false,
         evaluations: 0,
         changes: 0,

@@ -1,9 +1,5 @@
 // Between the C form of a table and the table: the held parent, whether a C form is refused, and a change stored in it.
 use c_table_spec::TableAnswer;
-use c_table_spec::TableForm;
-use nbr_metric_spec::Place;
-use nbr_table_spec::Change;
-use nbr_table_spec::PLACES;
 use nbr_table_spec::Parent;
 ghost use mathlib.Core.Path.{_≡_};
 ghost use Rattle.c_table_spec.specs.Table.{isParent, parentOf, refused, storedForm};
@@ -29,7 +25,7 @@ pub fn is_parent(held: bool, id: u64) -> bool
 }
 
 // Whether every call refuses a C form: it is no table's, or its table breaks a rule.
-pub fn is_refused(places: [Place; 32], held: bool, parent: u64) -> bool
+pub fn is_refused(places: [nbr_metric_spec::Place; 32], held: bool, parent: u64) -> bool
     ensures { λ r. ⌜ r ≡ refused (record { places = places; held = held; parent = parent }) ⌝ }
 {
     if is_parent(held, parent) {
@@ -39,11 +35,11 @@ pub fn is_refused(places: [Place; 32], held: bool, parent: u64) -> bool
 }
 
 // The C form with a change stored, and the change's number; past 31 nothing is stored.
-pub fn stored(table: TableForm, change: Change) -> TableAnswer
+pub fn stored(table: c_table_spec::TableForm, change: nbr_table_spec::Change) -> TableAnswer
     ensures { λ r. ⌜ r ≡ storedForm table change ⌝ }
 {
     let at = change.at;
-    if at < PLACES {
+    if at < nbr_table_spec::PLACES {
         let place = change.place;
         let mut changed = table;
         changed.places[at] = place;

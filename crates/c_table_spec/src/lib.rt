@@ -1,12 +1,11 @@
 // The C form of a neighbour table and of what the calls on it answer: structs without enums, laid out as C lays them out, and the
 // theorems that tie them to the tables of the rules (specs/). include/tesolvagna.h declares the same structs.
-use nbr_metric_spec::Place;
 ghost use Rattle.c_table_spec.specs.Claims.{AtMost101ChangesInC, CallsAgree, ChangesAreFlagged, EvaluationsAgree, FormsAreTables, NoneRefusedInC, ParentsDoNotFlapInC, RefusalsChangeNothing, TablesAreForms, Witnessed};
 
 // A table: 32 places, whether a parent is held, and its identifier, 0 where none is held.
 #[repr(C)]
 pub struct TableForm {
-    pub places: [Place; 32],
+    pub places: [nbr_metric_spec::Place; 32],
     pub held: bool,
     pub parent: u64,
 }

@@ -8,7 +8,6 @@ ghost use Rattle.octets_spec.specs.Choice.{ifEq};
 ghost use Rattle.octets_spec.specs.Number.{leAt};
 ghost use Rattle.eb_decode.specs.Header.{headerForm};
 use crate::fixed;
-use mac_header_spec::EXTENDED;
 
 // What is above a number of two bytes.
 const OVER_2_BYTES: u64 = 0x1_0000;
@@ -30,13 +29,13 @@ fn source(s: &[u8], mode: u64, at: usize) -> u64
     ensures { λ r. ⌜ (r ≡ ifEq mode 3 (leAt 8 (now (s .entry)) at) (leAt 2 (now (s .entry)) at)) × ((mode ≡ 3 → ⊥) → r < 0x1_0000) ⌝ }
 {
     if s.len() < LONG_ENOUGH {
-        if mode == EXTENDED {
+        if mode == mac_header_spec::EXTENDED {
             return octets::get::le(s, at, 8);
         }
         return octets::get::le(s, at, 2);
     }
     let wide = fixed::le64(s, at);
-    fixed::choose(mode, EXTENDED, wide, wide % OVER_2_BYTES)
+    fixed::choose(mode, mac_header_spec::EXTENDED, wide, wide % OVER_2_BYTES)
 }
 
 // The sequence number, the PAN and the source of a frame. They are those of a record: no number where there is none, and no short source
@@ -53,7 +52,7 @@ pub(crate) fn header_at(s: &[u8]) -> HeaderForm
         sequenced: control.suppressed == 0,
         sequence: fixed::choose(control.suppressed, 0, fixed::byte(s, 2), 0) as u8,
         pan: fixed::le16(s, pan) as u16,
-        extended: control.source == EXTENDED,
+        extended: control.source == mac_header_spec::EXTENDED,
         source: source(s, control.source, at),
     }
 }

@@ -2,7 +2,6 @@
 ghost use mathlib.Core.Path.{_≡_};
 ghost use Prim.Native.Nat.{_<_};
 ghost use Rattle.eb_read_spec.specs.Inside.{bytesInside, isTimeslotLength, timeslotInside, slotframeInside, isJoiningLength, joiningInside, liesInside};
-use ie_walk_spec::Walk;
 
 // The P flag in the first byte of joining information.
 const PROXIED: u64 = 0x40;
@@ -89,7 +88,7 @@ fn joining_inside(s: &[u8], at: usize, to: usize) -> bool
 }
 
 // Whether all elements that a walk noted lie inside the frame.
-pub fn is_inside(s: &[u8], walk: Walk) -> bool
+pub fn is_inside(s: &[u8], walk: ie_walk_spec::Walk) -> bool
     ensures { λ r. ⌜ r ≡ liesInside (now (s .entry)) walk ⌝ }
 {
     bytes_inside(s, walk.synchronization, 6)

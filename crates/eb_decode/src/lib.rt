@@ -6,10 +6,6 @@ ghost use Rattle.eb_record_spec.specs.Record.{blankBeacon};
 ghost use Rattle.eb_record_spec.specs.Form.{formOf, isBeacon};
 ghost use Rattle.eb_read_spec.specs.Form.{decodedForm};
 use eb_record_spec::BeaconForm;
-use eb_record_spec::Slotframe;
-use eb_record_spec::Synchronization;
-use eb_record_spec::TimeslotTemplate;
-use ie_walk_spec::Walk;
 
 mod elements;
 mod fixed;
@@ -26,14 +22,14 @@ pub fn blank_form() -> BeaconForm
         pan: 0,
         extended: false,
         source: 0,
-        synchronization: Synchronization { asn: 0, metric: 0 },
-        timeslot: TimeslotTemplate {
+        synchronization: eb_record_spec::Synchronization { asn: 0, metric: 0 },
+        timeslot: eb_record_spec::TimeslotTemplate {
             id: 0,
             timed: false,
             timings: [0u32; 12],
         },
         hopping: 0,
-        slotframe: Slotframe {
+        slotframe: eb_record_spec::Slotframe {
             handle: 0,
             size: 0,
             count: 0,
@@ -44,7 +40,7 @@ pub fn blank_form() -> BeaconForm
 }
 
 // The record at the offsets of a walk, and the blank one if an element does not lie inside the frame.
-pub fn decode(s: &[u8], walk: Walk) -> BeaconForm
+pub fn decode(s: &[u8], walk: ie_walk_spec::Walk) -> BeaconForm
     ensures answer { λ r. ⌜ r ≡ decodedForm (now (s .entry)) walk ⌝ }
     ensures record { λ r. ⌜ isBeacon r ≡ true ⌝ }
 {

@@ -6,8 +6,6 @@ ghost use Rattle.eb_read_spec.specs.Inside.{AcceptedLiesInside};
 use eb_read_spec::Examination;
 use ie_walk_spec::HeaderListEnd;
 use ie_walk_spec::Walk;
-use refusal::DONE;
-use refusal::MISSING_OR_TWICE;
 
 pub mod mac_header_fault;
 
@@ -70,18 +68,18 @@ fn missing_fault(walk: Walk) -> u8
     ensures { λ r. ⌜ r ≡ missing walk ⌝ }
 {
     if walk.synchronization == 0 {
-        return MISSING_OR_TWICE;
+        return refusal::MISSING_OR_TWICE;
     }
     if walk.timeslot == 0 {
-        return MISSING_OR_TWICE;
+        return refusal::MISSING_OR_TWICE;
     }
     if walk.hopping == 0 {
-        return MISSING_OR_TWICE;
+        return refusal::MISSING_OR_TWICE;
     }
     if walk.slotframe == 0 {
-        return MISSING_OR_TWICE;
+        return refusal::MISSING_OR_TWICE;
     }
-    DONE
+    refusal::DONE
 }
 
 // The number of the first fault, or that of a missing element.
@@ -101,7 +99,7 @@ pub fn examine(s: &[u8]) -> Examination
     ensures inside { λ _. ⌜ AcceptedLiesInside ⌝ }
 {
     let fault = crate::mac_header_fault::mac_header_fault(s);
-    if fault != DONE {
+    if fault != refusal::DONE {
         return Examination {
             number: fault,
             walk: blank_walk(),

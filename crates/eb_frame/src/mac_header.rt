@@ -4,7 +4,6 @@ ghost use Prim.Native.Nat.{_≤_, _<_};
 ghost use lib.ListN.{length};
 ghost use Rattle.octets_spec.specs.Number.{leBytes, stored};
 ghost use Rattle.eb_write_spec.specs.Frame.{suppressedBit, sequenceBytes, sourceMode, sourceBytes, controlWord, macHeaderBytes};
-use crate::BYTE_2;
 use eb_record_spec::Address;
 use eb_record_spec::SequenceNumber;
 
@@ -97,9 +96,9 @@ pub fn put_mac_header(buffer: &mut [u8], sequence: SequenceNumber, pan: u16, sou
     ensures { λ _. ⌜ now (buffer .exit) ≡ stored (now (buffer .entry)) 0 (macHeaderBytes sequence pan source) ⌝ }
 {
     let size = eb_limits::sizes::sequence_size(sequence);
-    let first = control_word(sequence, source) + sequence_number(sequence) * BYTE_2;
+    let first = control_word(sequence, source) + sequence_number(sequence) * crate::BYTE_2;
     octets::put::put_le(buffer, 0, 2 + size as u8, first);
-    octets::put::put_le(buffer, 2 + size, 4, pan as u64 + BROADCAST * BYTE_2);
+    octets::put::put_le(buffer, 2 + size, 4, pan as u64 + BROADCAST * crate::BYTE_2);
     octets::put::put_le(
         buffer,
         6 + size,

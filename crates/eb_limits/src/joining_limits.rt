@@ -4,7 +4,6 @@ ghost use Prim.Native.Nat.{_≤_};
 ghost use lib.ListN.{drop};
 ghost use Rattle.eb_write_spec.specs.Limits.{allBelow, addressFits, presentFits, absentFits, joiningFits};
 ghost use Rattle.eb_write_spec.specs.Range.{allFrom, below};
-use crate::OVER_1_BYTE;
 use eb_record_spec::JoiningInformation;
 
 // The first number that 7 bits do not hold.
@@ -53,7 +52,7 @@ fn present_fits(joining: JoiningInformation) -> bool
         & ((joining.rank < OVER_12_BITS)
             & (address_fits(joining)
                 & ((joining.length < 17)
-                    & (network_below(network, 0, used, OVER_1_BYTE)
+                    & (network_below(network, 0, used, crate::OVER_1_BYTE)
                         & network_unused(network, used)))))
 }
 

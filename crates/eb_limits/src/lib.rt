@@ -7,10 +7,7 @@ ghost use Rattle.eb_write_spec.specs.Limits.{sequenceFits, synchronizationFits,
 ghost use Rattle.eb_record_spec.specs.Form.{sourceFits};
 ghost use Rattle.eb_write_spec.specs.Range.{allFrom, below};
 use eb_record_spec::Address;
-use eb_record_spec::Beacon;
 use eb_record_spec::SequenceNumber;
-use eb_record_spec::Synchronization;
-use eb_record_spec::TimeslotTemplate;
 
 pub mod joining_limits;
 pub mod sizes;
@@ -70,7 +67,7 @@ fn source_fits(source: Address) -> bool
     }
 }
 
-fn synchronization_fits(synchronization: Synchronization) -> bool
+fn synchronization_fits(synchronization: eb_record_spec::Synchronization) -> bool
     ensures { λ r. ⌜ r ≡ synchronizationFits synchronization ⌝ }
 {
     synchronization.asn < OVER_5_BYTES
@@ -90,7 +87,7 @@ fn timings_below(timings: [u32; 12], from: usize, to: usize, bound: u32) -> bool
     ok
 }
 
-fn template_fits(template: TimeslotTemplate) -> bool
+fn template_fits(template: eb_record_spec::TimeslotTemplate) -> bool
     ensures { λ r. ⌜ r ≡ templateFits template ⌝ }
 {
     let timings = template.timings;
@@ -102,7 +99,7 @@ fn template_fits(template: TimeslotTemplate) -> bool
 }
 
 // Whether a record is within the limits of writing.
-pub fn within_limits(beacon: Beacon) -> bool
+pub fn within_limits(beacon: eb_record_spec::Beacon) -> bool
     ensures { λ r. ⌜ r ≡ fits beacon ⌝ }
 {
     let sequence = beacon.sequence;

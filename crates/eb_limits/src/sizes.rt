@@ -6,9 +6,7 @@ ghost use lib.ListN.{length, drop};
 ghost use Rattle.octets_spec.specs.Choice.{ifOn};
 ghost use Rattle.eb_write_spec.specs.Frame.{sequenceBytes, sourceBytes, lastWidth, templateSize, groupSize, joiningSize, frameOf, frameLength};
 ghost use Rattle.eb_write_spec.specs.Limits.{fits};
-use crate::OVER_2_BYTES;
 use eb_record_spec::Address;
-use eb_record_spec::Beacon;
 use eb_record_spec::JoiningInformation;
 use eb_record_spec::SequenceNumber;
 use eb_record_spec::TimeslotTemplate;
@@ -50,8 +48,8 @@ pub fn source_size(source: Address) -> usize
 pub fn last_width(timings: [u32; 12]) -> u8
     ensures { λ r. ⌜ (r ≡ lastWidth (drop 10 timings)) × (r ≤ 3) ⌝ }
 {
-    if timings[10] < OVER_2_BYTES {
-        if timings[11] < OVER_2_BYTES {
+    if timings[10] < crate::OVER_2_BYTES {
+        if timings[11] < crate::OVER_2_BYTES {
             return 2;
         }
         return 3;
@@ -101,7 +99,7 @@ fn joining_part(joining: JoiningInformation) -> usize
 
 // The bytes of a frame: the formula for every record, and the length of the frame for a record within the limits. Frame control, PAN,
 // destination, the header list's terminator and the MLME group's descriptor have 2 bytes each.
-pub fn frame_length(beacon: Beacon) -> usize
+pub fn frame_length(beacon: eb_record_spec::Beacon) -> usize
     ensures formula { λ r. ⌜ r ≡ frameLength beacon ⌝ }
     ensures frame { λ r. ⌜ (fits beacon ≡ true → r ≡ length (frameOf beacon)) ⌝ }
 {

@@ -3,15 +3,13 @@ ghost use mathlib.Core.Path.{_≡_};
 ghost use Prim.Native.Nat.{_≤_};
 ghost use Rattle.eb_write_spec.specs.Limits.{linkFits, linkUnused, slotframeFits};
 ghost use Rattle.eb_write_spec.specs.Range.{allFrom};
-use crate::OVER_1_BYTE;
 use eb_record_spec::Link;
-use eb_record_spec::Slotframe;
 
 // The channel offset fits by its type.
 fn link_fits(link: Link, size: u16) -> bool
     ensures { λ r. ⌜ r ≡ linkFits size link ⌝ }
 {
-    (link.timeslot < size) & (link.options < OVER_1_BYTE)
+    (link.timeslot < size) & (link.options < crate::OVER_1_BYTE)
 }
 
 fn link_unused(link: Link) -> bool
@@ -49,7 +47,7 @@ fn links_unused(links: [Link; 16], from: usize) -> bool
 }
 
 // Whether a slotframe is within the limits of writing.
-pub fn slotframe_fits(slotframe: Slotframe) -> bool
+pub fn slotframe_fits(slotframe: eb_record_spec::Slotframe) -> bool
     ensures { λ r. ⌜ r ≡ slotframeFits slotframe ⌝ }
 {
     let links = slotframe.links;

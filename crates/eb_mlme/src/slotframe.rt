@@ -5,9 +5,7 @@ ghost use Prim.Native.Nat.{_+_, _*_, _≤_};
 ghost use lib.ListN.{take};
 ghost use Rattle.octets_spec.specs.Number.{leBytes, stored};
 ghost use Rattle.eb_write_spec.specs.Frame.{slotframeId, shortDescriptor, linkBytes, linksBytes, slotframeBytes};
-use crate::BYTE_2;
 use eb_record_spec::Link;
-use eb_record_spec::Slotframe;
 
 // The descriptor of slotframe and link, with the length of an element without links.
 const SLOTFRAME_DESCRIPTOR: u64 = 0x1B05;
@@ -24,7 +22,7 @@ const BYTE_6: u64 = 0x1_0000_0000_0000;
 fn link_number(link: Link) -> u64
     ensures { λ r. ⌜ leBytes 5 r ≡ linkBytes link ⌝ }
 {
-    link.timeslot as u64 + link.channel_offset as u64 * BYTE_2 + link.options as u64 * BYTE_4
+    link.timeslot as u64 + link.channel_offset as u64 * crate::BYTE_2 + link.options as u64 * BYTE_4
 }
 
 fn put_links(buffer: &mut [u8], at: usize, links: [Link; 16], used: usize)
@@ -53,7 +51,7 @@ fn head_number(handle: u8, size: u16, count: u8) -> u64
 }
 
 // The slotframe and link element.
-pub fn put_slotframe(buffer: &mut [u8], at: usize, slotframe: Slotframe)
+pub fn put_slotframe(buffer: &mut [u8], at: usize, slotframe: eb_record_spec::Slotframe)
     ensures { λ _. ⌜ now (buffer .exit) ≡ stored (now (buffer .entry)) at (slotframeBytes slotframe) ⌝ }
 {
     if buffer.len() <= at {

@@ -3,8 +3,6 @@ ghost use mathlib.Core.Path.{_≡_};
 ghost use lib.ListN.{take, drop};
 ghost use Rattle.octets_spec.specs.Number.{stored};
 ghost use Rattle.eb_write_spec.specs.Frame.{numbersIn, lastWidth, timingsBytes, templateBytes};
-use crate::BYTE_2;
-use eb_record_spec::TimeslotTemplate;
 
 // The descriptor of timeslot, with length 0.
 const TIMESLOT_DESCRIPTOR: u64 = 0x1C00;
@@ -46,7 +44,7 @@ fn put_timings(buffer: &mut [u8], at: usize, timings: [u32; 12])
 }
 
 // The timeslot element: its descriptor and ID as one number of three bytes, then the timings if they are there.
-pub fn put_template(buffer: &mut [u8], at: usize, template: TimeslotTemplate)
+pub fn put_template(buffer: &mut [u8], at: usize, template: eb_record_spec::TimeslotTemplate)
     ensures { λ _. ⌜ now (buffer .exit) ≡ stored (now (buffer .entry)) at (templateBytes template) ⌝ }
 {
     if buffer.len() <= at {
@@ -58,7 +56,7 @@ pub fn put_template(buffer: &mut [u8], at: usize, template: TimeslotTemplate)
         buffer,
         at,
         3,
-        size as u64 + TIMESLOT_DESCRIPTOR + template.id as u64 * BYTE_2,
+        size as u64 + TIMESLOT_DESCRIPTOR + template.id as u64 * crate::BYTE_2,
     );
     if template.timed {
         put_timings(buffer, at + 3, timings);

@@ -3,7 +3,6 @@ ghost use mathlib.Core.Path.{_≡_};
 ghost use Rattle.eb_read_spec.specs.Read.{readFrame};
 ghost use Rattle.eb_read_spec.specs.Claims.{NumbersTo8, OneIsTheLength, AcceptedMayBeDecidedOn};
 pub use eb_read_spec::ReadAnswer;
-use refusal::DONE;
 
 pub mod network;
 
@@ -15,7 +14,7 @@ pub fn read(s: &[u8]) -> ReadAnswer
     ensures accepted { λ _. ⌜ AcceptedMayBeDecidedOn ⌝ }
 {
     let found = eb_examine::examine(s);
-    if found.number != DONE {
+    if found.number != refusal::DONE {
         return ReadAnswer {
             number: found.number,
             beacon: eb_record_spec::blank(),
@@ -23,7 +22,7 @@ pub fn read(s: &[u8]) -> ReadAnswer
     }
     let walk = found.walk;
     ReadAnswer {
-        number: DONE,
+        number: refusal::DONE,
         beacon: eb_record::beacon_of(eb_decode::decode(s, walk)),
     }
 }

@@ -4,7 +4,6 @@ ghost use Prim.Native.Nat.{_≤_};
 ghost use Rattle.eb_read_spec.specs.Decode.{networkOffset};
 ghost use Rattle.eb_read_spec.specs.Network.{spanFrom, networkSpan, networkPart, NetworkLiesInside};
 use eb_read_spec::Span;
-use refusal::DONE;
 
 // The P flag of joining information, in its first four bytes: the address of the join proxy stands behind them.
 const PROXIED: u64 = 0x4000_0000;
@@ -38,7 +37,7 @@ pub fn network_span(s: &[u8]) -> Span
     ensures inside { λ _. ⌜ NetworkLiesInside ⌝ }
 {
     let found = eb_examine::examine(s);
-    if found.number != DONE {
+    if found.number != refusal::DONE {
         return Span {
             offset: 0,
             length: 0,

@@ -5,36 +5,31 @@ ghost use Rattle.eb_read_spec.specs.Claims.{NumbersTo8, OneIsTheLength, 
 ghost use Rattle.eb_read_spec.specs.Inside.{AcceptedLiesInside};
 ghost use Rattle.eb_read_spec.specs.Network.{NetworkLiesInside};
 ghost use Rattle.eb_read_spec.specs.Witnesses.{ShortestIsRead, SomeFrameIsAccepted, SomeFrameHasJoiningInformation, EachNumberIsGiven};
-use eb_record_spec::Address;
-use eb_record_spec::Beacon;
-use eb_record_spec::BeaconForm;
-use eb_record_spec::SequenceNumber;
-use ie_walk_spec::Walk;
 
 // What stands before the elements.
 pub struct MacHeader {
-    pub sequence: SequenceNumber,
+    pub sequence: eb_record_spec::SequenceNumber,
     pub pan: u16,
-    pub source: Address,
+    pub source: eb_record_spec::Address,
 }
 
 // The number of a frame and what the walk over it noted.
 pub struct Examination {
     pub number: u8,
-    pub walk: Walk,
+    pub walk: ie_walk_spec::Walk,
 }
 
 // The number of a frame and its record, which is the blank one if the number is not 0.
 pub struct ReadAnswer {
     pub number: u8,
-    pub beacon: Beacon,
+    pub beacon: eb_record_spec::Beacon,
 }
 
 // The same without enums, as C has it.
 #[repr(C)]
 pub struct FormReading {
     pub number: u8,
-    pub beacon: BeaconForm,
+    pub beacon: eb_record_spec::BeaconForm,
 }
 
 // A part of the bytes of a frame: where it starts and how many bytes it has.

@@ -6,7 +6,6 @@ ghost use Rattle.eb_write_spec.specs.Write.{bufferAfter};
 ghost use Rattle.eb_round_trip_spec.specs.RoundTrip.{refusedAs, backFrom};
 use eb_read::ReadAnswer;
 use eb_record_spec::Beacon;
-use refusal::DONE;
 
 // A record's arrays have their sizes by their types. The function does nothing; a proof learns it from the call.
 fn sized(beacon: Beacon)
@@ -29,7 +28,7 @@ pub fn write_and_read(buffer: &mut [u8], beacon: Beacon) -> ReadAnswer
     ensures buffer { λ _. ⌜ now (buffer .exit) ≡ bufferAfter beacon (now (buffer .entry)) ⌝ }
 {
     let written = eb_write::write(buffer, beacon);
-    if written.number != DONE {
+    if written.number != refusal::DONE {
         return refused(written.number);
     }
     sized(beacon);

@@ -1,46 +1,41 @@
 // Writing beacons: the frame of a record, put into a lent buffer. Nothing is stored before the last check.
-use refusal::BUFFER_TOO_SHORT;
-use refusal::DONE;
-use refusal::FRAME_TOO_LONG;
-use refusal::OUT_OF_LIMITS;
 ghost use mathlib.Core.Path.{_≡_};
 ghost use lib.ListN.{length};
 ghost use Rattle.eb_write_spec.specs.Write.{writtenIn, bufferAfter};
 ghost use Rattle.eb_write_spec.specs.Claims.{WriteNumbers};
-use eb_record_spec::Beacon;
 use eb_write_spec::Written;
 
 // The bytes of the longest frame.
 const LONGEST_FRAME: usize = 125;
 
 // Writes a record's frame at the start of a lent buffer.
-pub fn write(buffer: &mut [u8], beacon: Beacon) -> Written
+pub fn write(buffer: &mut [u8], beacon: eb_record_spec::Beacon) -> Written
     ensures answer { λ r. ⌜ r ≡ writtenIn beacon (length (now (buffer .entry))) ⌝ }
     ensures buffer { λ _. ⌜ now (buffer .exit) ≡ bufferAfter beacon (now (buffer .entry)) ⌝ }
     ensures numbers { λ _. ⌜ WriteNumbers ⌝ }
 {
     if !eb_limits::within_limits(beacon) {
         return Written {
-            number: OUT_OF_LIMITS,
+            number: refusal::OUT_OF_LIMITS,
             length: 0,
         };
     }
     let length = eb_limits::sizes::frame_length(beacon);
     if LONGEST_FRAME < length {
         return Written {
-            number: FRAME_TOO_LONG,
+            number: refusal::FRAME_TOO_LONG,
             length: 0,
         };
     }
     if buffer.len() < length {
         return Written {
-            number: BUFFER_TOO_SHORT,
+            number: refusal::BUFFER_TOO_SHORT,
             length: 0,
         };
     }
     eb_frame::put_frame(buffer, beacon);
     Written {
-        number: DONE,
+        number: refusal::DONE,
         length,
     }
 }

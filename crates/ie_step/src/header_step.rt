@@ -2,11 +2,7 @@
 ghost use mathlib.Core.Path.{_≡_};
 ghost use Prim.Native.Nat.{_+_, _≤_, _<_};
 ghost use Rattle.ie_step_spec.specs.Header.{headerWord, headerAt, headerWithin};
-use ie_step_spec::HEADER_TERMINATION_1;
-use ie_step_spec::HEADER_TERMINATION_2;
 use ie_step_spec::HeaderStep;
-use refusal::CUT;
-use refusal::SHAPE;
 
 // What the descriptor at an offset says.
 fn header_word(at: usize, end: usize, word: u64) -> HeaderStep
@@ -17,22 +13,22 @@ fn header_word(at: usize, end: usize, word: u64) -> HeaderStep
     let id = word / 0x80 % 0x100;
     let from = at + 2;
     if end - from < length {
-        return HeaderStep::Fault(CUT);
+        return HeaderStep::Fault(refusal::CUT);
     }
     if word / 0x8000 == 1 {
-        return HeaderStep::Fault(SHAPE);
+        return HeaderStep::Fault(refusal::SHAPE);
     }
-    if id == HEADER_TERMINATION_1 {
+    if id == ie_step_spec::HEADER_TERMINATION_1 {
         if length == 0 {
             return HeaderStep::Payload(from);
         }
-        return HeaderStep::Fault(SHAPE);
+        return HeaderStep::Fault(refusal::SHAPE);
     }
-    if id == HEADER_TERMINATION_2 {
+    if id == ie_step_spec::HEADER_TERMINATION_2 {
         if length == 0 {
             return HeaderStep::End;
         }
-        return HeaderStep::Fault(SHAPE);
+        return HeaderStep::Fault(refusal::SHAPE);
     }
     HeaderStep::Element(id, from, from + length)
 }
@@ -45,7 +41,7 @@ pub fn header_step(s: &[u8], at: usize, end: usize) -> HeaderStep
         return HeaderStep::End;
     }
     if end - at < 2 {
-        return HeaderStep::Fault(CUT);
+        return HeaderStep::Fault(refusal::CUT);
     }
     header_word(at, end, octets::get::le(s, at, 2))
 }

@@ -3,8 +3,6 @@ ghost use mathlib.Core.Path.{_≡_};
 ghost use Prim.Native.Nat.{_+_, _≤_, _<_};
 ghost use Rattle.ie_step_spec.specs.Payload.{innerWord, innerAt, innerWithin};
 use ie_step_spec::InnerStep;
-use ie_step_spec::LONG;
-use refusal::CUT;
 
 // What the descriptor at an offset says.
 fn inner_word(at: usize, end: usize, word: u64) -> InnerStep
@@ -15,15 +13,15 @@ fn inner_word(at: usize, end: usize, word: u64) -> InnerStep
     if word / 0x8000 == 0 {
         let short = (word % 0x100) as usize;
         if end - from < short {
-            return InnerStep::Fault(CUT);
+            return InnerStep::Fault(refusal::CUT);
         }
         return InnerStep::Part(word / 0x100, from, from + short);
     }
     let long = (word % 0x800) as usize;
     if end - from < long {
-        return InnerStep::Fault(CUT);
+        return InnerStep::Fault(refusal::CUT);
     }
-    InnerStep::Part(LONG + word / 0x800 % 0x10, from, from + long)
+    InnerStep::Part(ie_step_spec::LONG + word / 0x800 % 0x10, from, from + long)
 }
 
 // What stands at an offset of an MLME group.
@@ -34,7 +32,7 @@ pub fn inner_step(s: &[u8], at: usize, end: usize) -> InnerStep
         return InnerStep::Back;
     }
     if end - at < 2 {
-        return InnerStep::Fault(CUT);
+        return InnerStep::Fault(refusal::CUT);
     }
     inner_word(at, end, octets::get::le(s, at, 2))
 }

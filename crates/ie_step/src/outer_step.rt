@@ -2,27 +2,21 @@
 ghost use mathlib.Core.Path.{_≡_};
 ghost use Prim.Native.Nat.{_+_, _≤_, _<_};
 ghost use Rattle.ie_step_spec.specs.Payload.{groupOf, outerWord, outerAt, outerWithin};
-use ie_step_spec::IETF;
-use ie_step_spec::JOINING_SUBTYPE;
-use ie_step_spec::MLME;
 use ie_step_spec::OuterStep;
-use ie_step_spec::PAYLOAD_TERMINATION;
-use refusal::CUT;
-use refusal::SHAPE;
 
 // A group of the payload list that is not its end: an MLME group, joining information, or one to be skipped.
 fn group_word(s: &[u8], group: u64, from: usize, to: usize) -> OuterStep
     requires { ⌜ from ≤ to ⌝ }
     ensures { λ r. ⌜ (r ≡ groupOf (now (s .entry)) group from to) × outerWithin r from to ⌝ }
 {
-    if group == MLME {
+    if group == ie_step_spec::MLME {
         return OuterStep::Group(from, to);
     }
-    if group == IETF {
+    if group == ie_step_spec::IETF {
         if from == to {
-            return OuterStep::Fault(SHAPE);
+            return OuterStep::Fault(refusal::SHAPE);
         }
-        if octets::get::byte(s, from) == JOINING_SUBTYPE {
+        if octets::get::byte(s, from) == ie_step_spec::JOINING_SUBTYPE {
             return OuterStep::Joining(from + 1, to);
         }
         return OuterStep::Skip(to);
@@ -39,16 +33,16 @@ fn outer_word(s: &[u8], at: usize, end: usize, word: u64) -> OuterStep
     let group = word / 0x800 % 0x10;
     let from = at + 2;
     if end - from < size {
-        return OuterStep::Fault(CUT);
+        return OuterStep::Fault(refusal::CUT);
     }
     if word / 0x8000 == 0 {
-        return OuterStep::Fault(SHAPE);
+        return OuterStep::Fault(refusal::SHAPE);
     }
-    if group == PAYLOAD_TERMINATION {
+    if group == ie_step_spec::PAYLOAD_TERMINATION {
         if size == 0 {
             return OuterStep::End;
         }
-        return OuterStep::Fault(SHAPE);
+        return OuterStep::Fault(refusal::SHAPE);
     }
     group_word(s, group, from, from + size)
 }
@@ -61,7 +55,7 @@ pub fn outer_step(s: &[u8], at: usize, end: usize) -> OuterStep
         return OuterStep::End;
     }
     if end - at < 2 {
-        return OuterStep::Fault(CUT);
+        return OuterStep::Fault(refusal::CUT);
     }
     outer_word(s, at, end, octets::get::le(s, at, 2))
 }

@@ -3,16 +3,6 @@
 ghost use mathlib.Core.Path.{_≡_};
 ghost use Prim.Native.Nat.{_<_};
 ghost use Rattle.ie_verdict_spec.specs.Verdict.{onceOnly, syncFault, timeslotFault, hoppingFault, joiningFault, partFault};
-use ie_verdict_spec::HOPPING;
-use ie_verdict_spec::JOINING;
-use ie_verdict_spec::SLOTFRAME;
-use ie_verdict_spec::SYNCHRONIZATION;
-use ie_verdict_spec::Seen;
-use ie_verdict_spec::TIMESLOT;
-use refusal::DONE;
-use refusal::MISSING_OR_TWICE;
-use refusal::OUT_OF_LIMITS;
-use refusal::SHAPE;
 
 pub mod slotframe_fault;
 
@@ -24,9 +14,9 @@ fn twice(seen: usize) -> u8
     ensures { λ r. ⌜ r ≡ onceOnly seen ⌝ }
 {
     if seen == 0 {
-        return DONE;
+        return refusal::DONE;
     }
-    MISSING_OR_TWICE
+    refusal::MISSING_OR_TWICE
 }
 
 fn sync_fault(length: usize, seen: usize) -> u8
@@ -35,7 +25,7 @@ fn sync_fault(length: usize, seen: usize) -> u8
     if length == 6 {
         return twice(seen);
     }
-    SHAPE
+    refusal::SHAPE
 }
 
 fn timeslot_fault(length: usize, seen: usize, id: u64) -> u8
@@ -48,30 +38,30 @@ fn timeslot_fault(length: usize, seen: usize, id: u64) -> u8
         return twice(seen);
     }
     if length != 1 {
-        return SHAPE;
+        return refusal::SHAPE;
     }
     if seen != 0 {
-        return MISSING_OR_TWICE;
+        return refusal::MISSING_OR_TWICE;
     }
     if id != 0 {
-        return OUT_OF_LIMITS;
+        return refusal::OUT_OF_LIMITS;
     }
-    DONE
+    refusal::DONE
 }
 
 fn hopping_fault(length: usize, seen: usize) -> u8
     ensures { λ r. ⌜ r ≡ hoppingFault length seen ⌝ }
 {
     if length == 0 {
-        return SHAPE;
+        return refusal::SHAPE;
     }
     if seen != 0 {
-        return MISSING_OR_TWICE;
+        return refusal::MISSING_OR_TWICE;
     }
     if 1 < length {
-        return OUT_OF_LIMITS;
+        return refusal::OUT_OF_LIMITS;
     }
-    DONE
+    refusal::DONE
 }
 
 fn joining_fault(length: usize, seen: usize, proxied: u64) -> u8
@@ -80,38 +70,38 @@ fn joining_fault(length: usize, seen: usize, proxied: u64) -> u8
 {
     let fixed = 4 + 8 * proxied as usize;
     if length < fixed {
-        return SHAPE;
+        return refusal::SHAPE;
     }
     if fixed + 16 < length {
-        return SHAPE;
+        return refusal::SHAPE;
     }
     twice(seen)
 }
 
 // The fault of an element of some kind that lies from an offset to another, and 0 if it has none; an unknown kind has none. Kinds
 // are those of `ie_verdict_spec`.
-pub fn part_fault(s: &[u8], kind: u64, from: usize, to: usize, seen: Seen) -> u8
+pub fn part_fault(s: &[u8], kind: u64, from: usize, to: usize, seen: ie_verdict_spec::Seen) -> u8
     ensures { λ r. ⌜ r ≡ partFault (now (s .entry)) kind from to seen ⌝ }
 {
     let length = octets::span(from, to);
-    if kind == SYNCHRONIZATION {
+    if kind == ie_verdict_spec::SYNCHRONIZATION {
         return sync_fault(length, seen.synchronization);
     }
-    if kind == TIMESLOT {
+    if kind == ie_verdict_spec::TIMESLOT {
         return timeslot_fault(length, seen.timeslot, octets::get::byte(s, from));
     }
-    if kind == HOPPING {
+    if kind == ie_verdict_spec::HOPPING {
         return hopping_fault(length, seen.hopping);
     }
-    if kind == SLOTFRAME {
+    if kind == ie_verdict_spec::SLOTFRAME {
         return crate::slotframe_fault::slotframe_fault(s, from, to, seen.slotframe);
     }
-    if kind == JOINING {
+    if kind == ie_verdict_spec::JOINING {
         return joining_fault(
             length,
             seen.joining,
             octets::get::byte(s, from) / PROXIED % 2,
         );
     }
-    DONE
+    refusal::DONE
 }

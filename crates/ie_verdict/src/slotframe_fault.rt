@@ -2,10 +2,6 @@
 ghost use mathlib.Core.Path.{_≡_};
 ghost use Prim.Native.Nat.{_+_, _-_, _*_, _<_, _^_};
 ghost use Rattle.ie_verdict_spec.specs.Verdict.{slotframeShape, slotframeLimits, timeslotsFit, slotframeFaultAt};
-use refusal::DONE;
-use refusal::MISSING_OR_TWICE;
-use refusal::OUT_OF_LIMITS;
-use refusal::SHAPE;
 
 // The shape of a slotframe and link element, with its own order: too short, the count, the length.
 fn slotframe_shape(length: usize, count: u64, links: usize) -> u8
@@ -13,15 +9,15 @@ fn slotframe_shape(length: usize, count: u64, links: usize) -> u8
     ensures { λ r. ⌜ r ≡ slotframeShape length count links ⌝ }
 {
     if length < 5 {
-        return SHAPE;
+        return refusal::SHAPE;
     }
     if count != 1 {
-        return OUT_OF_LIMITS;
+        return refusal::OUT_OF_LIMITS;
     }
     if length != 5 + 5 * links {
-        return SHAPE;
+        return refusal::SHAPE;
     }
-    DONE
+    refusal::DONE
 }
 
 // The limits of a slotframe and link element.
@@ -29,18 +25,18 @@ fn slotframe_limits(size: u64, links: usize, below: bool) -> u8
     ensures { λ r. ⌜ r ≡ slotframeLimits size links below ⌝ }
 {
     if size == 0 {
-        return OUT_OF_LIMITS;
+        return refusal::OUT_OF_LIMITS;
     }
     if links == 0 {
-        return OUT_OF_LIMITS;
+        return refusal::OUT_OF_LIMITS;
     }
     if 16 < links {
-        return OUT_OF_LIMITS;
+        return refusal::OUT_OF_LIMITS;
     }
     if below {
-        return DONE;
+        return refusal::DONE;
     }
-    OUT_OF_LIMITS
+    refusal::OUT_OF_LIMITS
 }
 
 // Whether the timeslots of this many links from an offset on are below the size.
@@ -66,15 +62,15 @@ fn slotframe_at(s: &[u8], from: usize, length: usize, seen: usize) -> u8
     ensures { λ r. ⌜ r ≡ slotframeFaultAt (now (s .entry)) from length seen ⌝ }
 {
     if length < 5 {
-        return SHAPE;
+        return refusal::SHAPE;
     }
     let links = octets::get::byte(s, from + 4) as usize;
     let fault = slotframe_shape(length, octets::get::byte(s, from), links);
-    if fault != DONE {
+    if fault != refusal::DONE {
         return fault;
     }
     if seen != 0 {
-        return MISSING_OR_TWICE;
+        return refusal::MISSING_OR_TWICE;
     }
     let size = octets::get::le(s, from + 2, 2);
     slotframe_limits(size, links, timeslots_fit(s, from + 5, links, size))

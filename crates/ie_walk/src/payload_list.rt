@@ -7,15 +7,9 @@ ghost use Prim.Native.Nat.{_≤_};
 ghost use Rattle.ie_walk_spec.specs.Walk.{seenOf, taken, stopped, skipOne, partTaken, OuterIs, GroupGives, payloadList};
 use ie_step_spec::InnerStep;
 use ie_step_spec::OuterStep;
-use ie_verdict_spec::HOPPING;
-use ie_verdict_spec::JOINING;
-use ie_verdict_spec::SLOTFRAME;
-use ie_verdict_spec::SYNCHRONIZATION;
 use ie_verdict_spec::Seen;
-use ie_verdict_spec::TIMESLOT;
 use ie_walk_spec::GroupEnd;
 use ie_walk_spec::Walk;
-use refusal::DONE;
 
 // Which known elements were taken before.
 fn seen_of(walk: Walk) -> Seen
@@ -55,32 +49,32 @@ fn stop(walk: Walk, fault: u8, at: usize) -> Walk
 fn take(walk: Walk, kind: u64, from: usize, to: usize) -> Walk
     ensures { λ r. ⌜ r ≡ taken walk kind from to ⌝ }
 {
-    if kind == SYNCHRONIZATION {
+    if kind == ie_verdict_spec::SYNCHRONIZATION {
         return Walk {
             synchronization: from,
             ..walk
         };
     }
-    if kind == TIMESLOT {
+    if kind == ie_verdict_spec::TIMESLOT {
         return Walk {
             timeslot: from,
             timeslotend: to,
             ..walk
         };
     }
-    if kind == HOPPING {
+    if kind == ie_verdict_spec::HOPPING {
         return Walk {
             hopping: from,
             ..walk
         };
     }
-    if kind == SLOTFRAME {
+    if kind == ie_verdict_spec::SLOTFRAME {
         return Walk {
             slotframe: from,
             ..walk
         };
     }
-    if kind == JOINING {
+    if kind == ie_verdict_spec::JOINING {
         return Walk {
             joining: from,
             joiningend: to,
@@ -95,7 +89,7 @@ fn part(s: &[u8], walk: Walk, kind: u64, from: usize, to: usize, at: usize) -> W
     ensures { λ r. ⌜ r ≡ partTaken (now (s .entry)) walk kind from to at ⌝ }
 {
     let fault = ie_verdict::part_fault(s, kind, from, to, seen_of(walk));
-    if fault == DONE {
+    if fault == refusal::DONE {
         return take(walk, kind, from, to);
     }
     stop(walk, fault, at)
@@ -125,7 +119,7 @@ fn outer(s: &[u8], at: usize, end: usize, walk: Walk) -> Walk
                 }
             }
             OuterStep::Joining(from, to) => {
-                noted = part(s, noted, JOINING, from, to, i);
+                noted = part(s, noted, ie_verdict_spec::JOINING, from, to, i);
                 if noted.fault != 0 {
                     return noted;
                 }

@@ -4,7 +4,6 @@ ghost use Prim.Native.Nat.{_≤_};
 ghost use Rattle.octets_spec.specs.Choice.{ifEq};
 ghost use Rattle.mac_header_spec.specs.Control.{controlOf, addressLength, offsetsOf};
 use mac_header_spec::Control;
-use mac_header_spec::EXTENDED;
 use mac_header_spec::FieldOffsets;
 
 // Where the parts of frame control begin, each as the value of its lowest bit: security enabled.
@@ -42,7 +41,7 @@ pub fn control_of(word: u64) -> Control
 fn address_length(mode: u64) -> usize
     ensures { λ r. ⌜ (r ≡ addressLength mode) × (r ≤ 8) ⌝ }
 {
-    if mode == EXTENDED {
+    if mode == mac_header_spec::EXTENDED {
         return 8;
     }
     2

@@ -1,16 +1,7 @@
 // Advertise: sets a neighbour's rank, or adds the neighbour. The rules are those of docs/RULES.md, Neighbours.
-use crate::refuse;
 use nbr_metric_spec::Place;
-use nbr_table::search::find;
-use nbr_table::search::find_free;
-use nbr_table::table_store::with_place;
 use nbr_table_spec::Answer;
 use nbr_table_spec::Change;
-use nbr_table_spec::PLACES;
-use nbr_table_spec::Table;
-use refusal::DONE;
-use refusal::OUT_OF_LIMITS;
-use refusal::TABLE_FULL;
 ghost use mathlib.Core.Path.{_≡_};
 ghost use Rattle.nbr_table_spec.specs.Calls.{advertised};
 ghost use Rattle.nbr_table_spec.specs.Changes.{newcomer as newPlace, withRank};
@@ -40,35 +31,35 @@ fn newcomer(id: u64, rank: u16) -> Place
 pub fn advertising(places: [Place; 32], id: u64, rank: u16) -> Change
     ensures { λ r. ⌜ r ≡ advertisingOf places id rank ⌝ }
 {
-    let at = find(places, 0, id);
-    if at < PLACES {
+    let at = nbr_table::search::find(places, 0, id);
+    if at < nbr_table_spec::PLACES {
         return Change {
-            number: DONE,
+            number: refusal::DONE,
             at,
             place: with_rank(places[at], rank),
         };
     }
-    let unused = find_free(places);
-    if unused < PLACES {
+    let unused = nbr_table::search::find_free(places);
+    if unused < nbr_table_spec::PLACES {
         return Change {
-            number: DONE,
+            number: refusal::DONE,
             at: unused,
             place: newcomer(id, rank),
         };
     }
-    refuse(TABLE_FULL)
+    crate::refuse(refusal::TABLE_FULL)
 }
 
 // Sets a neighbour's rank, or adds the neighbour in the lowest-numbered free place. A table that breaks a rule is refused with
 // 8, and one without a free place for a new neighbour with 11.
-pub fn advertise(table: Table, id: u64, rank: u16) -> Answer
+pub fn advertise(table: nbr_table_spec::Table, id: u64, rank: u16) -> Answer
     ensures { λ r. ⌜ r ≡ advertised table id rank ⌝ }
 {
     let places = table.places;
     let parent = table.parent;
     if nbr_table::is_broken(places, parent) {
         return Answer {
-            number: OUT_OF_LIMITS,
+            number: refusal::OUT_OF_LIMITS,
             table,
         };
     }
@@ -76,6 +67,6 @@ pub fn advertise(table: Table, id: u64, rank: u16) -> Answer
     let place = change.place;
     Answer {
         number: change.number,
-        table: with_place(table, change.at, place),
+        table: nbr_table::table_store::with_place(table, change.at, place),
     }
 }

@@ -1,17 +1,9 @@
 // Forget: removes a neighbour. The rules are those of docs/RULES.md, Neighbours.
-use crate::refuse;
-use nbr_metric_spec::Place;
-use nbr_table::search::find;
 use nbr_table::table_store::with_parent;
 use nbr_table::table_store::with_place;
 use nbr_table_spec::Answer;
 use nbr_table_spec::Change;
-use nbr_table_spec::PLACES;
 use nbr_table_spec::Parent;
-use nbr_table_spec::Table;
-use refusal::DONE;
-use refusal::OUT_OF_LIMITS;
-use refusal::UNKNOWN_NEIGHBOUR;
 ghost use mathlib.Core.Path.{_≡_};
 ghost use Rattle.nbr_table_spec.specs.Calls.{forgotten, without as withoutParent};
 ghost use Rattle.nbr_table_spec.specs.Stores.{forgetting as forgettingOf};
@@ -32,30 +24,30 @@ pub fn without(parent: Parent, id: u64) -> Parent
 }
 
 // What forgetting a neighbour stores, on places that break no rule; an unknown neighbour is refused with 10.
-pub fn forgetting(places: [Place; 32], id: u64) -> Change
+pub fn forgetting(places: [nbr_metric_spec::Place; 32], id: u64) -> Change
     ensures { λ r. ⌜ r ≡ forgettingOf places id ⌝ }
 {
-    let at = find(places, 0, id);
-    if at < PLACES {
+    let at = nbr_table::search::find(places, 0, id);
+    if at < nbr_table_spec::PLACES {
         return Change {
-            number: DONE,
+            number: refusal::DONE,
             at,
             place: nbr_metric_spec::blank(),
         };
     }
-    refuse(UNKNOWN_NEIGHBOUR)
+    crate::refuse(refusal::UNKNOWN_NEIGHBOUR)
 }
 
 // Removes a neighbour; its place is free again, and a held parent so removed becomes none. A table that breaks a rule is refused
 // with 8, a neighbour that is not in the table with 10.
-pub fn forget(table: Table, id: u64) -> Answer
+pub fn forget(table: nbr_table_spec::Table, id: u64) -> Answer
     ensures { λ r. ⌜ r ≡ forgotten table id ⌝ }
 {
     let places = table.places;
     let parent = table.parent;
     if nbr_table::is_broken(places, parent) {
         return Answer {
-            number: OUT_OF_LIMITS,
+            number: refusal::OUT_OF_LIMITS,
             table,
         };
     }

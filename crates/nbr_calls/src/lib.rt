@@ -2,7 +2,6 @@
 // `advertising`, `reporting` and `forgetting` find out on 32 places that break no rule what a call stores, for callers that
 // have tested the table and keep it in another form.
 use nbr_table_spec::Change;
-use nbr_table_spec::PLACES;
 ghost use mathlib.Core.Path.{_≡_};
 ghost use Rattle.nbr_table_spec.specs.Stores.{refusing};
 
@@ -17,7 +16,7 @@ fn refuse(number: u8) -> Change
 {
     Change {
         number,
-        at: PLACES,
+        at: nbr_table_spec::PLACES,
         place: nbr_metric_spec::blank(),
     }
 }

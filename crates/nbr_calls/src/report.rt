@@ -1,18 +1,7 @@
 // Report: counts attempts to reach a neighbour. The rules are those of docs/RULES.md, Neighbours.
-use crate::refuse;
 use nbr_metric_spec::Place;
-use nbr_table::place_limits::is_unfit;
-use nbr_table::search::find;
-use nbr_table::table_store::with_place;
 use nbr_table_spec::Answer;
 use nbr_table_spec::Change;
-use nbr_table_spec::MOST_COUNTED;
-use nbr_table_spec::MOST_REPORTED;
-use nbr_table_spec::PLACES;
-use nbr_table_spec::Table;
-use refusal::DONE;
-use refusal::OUT_OF_LIMITS;
-use refusal::UNKNOWN_NEIGHBOUR;
 ghost use mathlib.Core.Path.{_≡_};
 ghost use mathlib.Core.Bool.{cond};
 ghost use Prim.Native.Nat.{_≤_};
@@ -46,7 +35,7 @@ fn attempted(place: Place, attempts: u16, acked: bool) -> Place
     let sent = place.attempts;
     let heard = place.acked;
     let more = one_if(acked);
-    if MOST_COUNTED < sent + attempts {
+    if nbr_table_spec::MOST_COUNTED < sent + attempts {
         return with_counters(place, sent / 2 + attempts, heard / 2 + more);
     }
     with_counters(place, sent + attempts, heard + more)
@@ -58,36 +47,36 @@ pub fn reporting(places: [Place; 32], id: u64, attempts: u32, acked: bool) -> Ch
     ensures { λ r. ⌜ r ≡ reportingOf places id attempts acked ⌝ }
 {
     if attempts < 1 {
-        return refuse(OUT_OF_LIMITS);
+        return crate::refuse(refusal::OUT_OF_LIMITS);
     }
-    if MOST_REPORTED < attempts {
-        return refuse(OUT_OF_LIMITS);
+    if nbr_table_spec::MOST_REPORTED < attempts {
+        return crate::refuse(refusal::OUT_OF_LIMITS);
     }
-    let at = find(places, 0, id);
-    if at < PLACES {
+    let at = nbr_table::search::find(places, 0, id);
+    if at < nbr_table_spec::PLACES {
         let place = places[at];
-        if is_unfit(place) {
-            return refuse(OUT_OF_LIMITS);
+        if nbr_table::place_limits::is_unfit(place) {
+            return crate::refuse(refusal::OUT_OF_LIMITS);
         }
         return Change {
-            number: DONE,
+            number: refusal::DONE,
             at,
             place: attempted(place, attempts as u16, acked),
         };
     }
-    refuse(UNKNOWN_NEIGHBOUR)
+    crate::refuse(refusal::UNKNOWN_NEIGHBOUR)
 }
 
 // Counts 1 to 4 attempts to reach a neighbour, acknowledged or not. A table that breaks a rule and other numbers of attempts
 // are refused with 8, a neighbour that is not in the table with 10.
-pub fn report(table: Table, id: u64, attempts: u32, acked: bool) -> Answer
+pub fn report(table: nbr_table_spec::Table, id: u64, attempts: u32, acked: bool) -> Answer
     ensures { λ r. ⌜ r ≡ reported table id attempts acked ⌝ }
 {
     let places = table.places;
     let parent = table.parent;
     if nbr_table::is_broken(places, parent) {
         return Answer {
-            number: OUT_OF_LIMITS,
+            number: refusal::OUT_OF_LIMITS,
             table,
         };
     }
@@ -95,6 +84,6 @@ pub fn report(table: Table, id: u64, attempts: u32, acked: bool) -> Answer
     let place = change.place;
     Answer {
         number: change.number,
-        table: with_place(table, change.at, place),
+        table: nbr_table::table_store::with_place(table, change.at, place),
     }
 }

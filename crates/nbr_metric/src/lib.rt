@@ -1,7 +1,4 @@
 // The path cost through a neighbour, and whether it may be a parent (docs/RULES.md, Neighbours).
-use nbr_metric_spec::HIGHEST_RANK;
-use nbr_metric_spec::MINIMUM_RANK;
-use nbr_metric_spec::NO_OFFER;
 use nbr_metric_spec::Place;
 ghost use mathlib.Core.Path.{_≡_};
 ghost use Prim.Native.Nat.{_<_, _≤_, _^_};
@@ -31,27 +28,27 @@ pub fn offer(place: Place) -> u32
     ensures bound { λ r. ⌜ r ≤ 65535 ⌝ }
 {
     if place.used {
-        if wide(place.rank) < MINIMUM_RANK {
-            return NO_OFFER;
+        if wide(place.rank) < nbr_metric_spec::MINIMUM_RANK {
+            return nbr_metric_spec::NO_OFFER;
         }
         if place.acked < 1 {
-            return NO_OFFER;
+            return nbr_metric_spec::NO_OFFER;
         }
         if 11 * wide(place.acked) < 3 * wide(place.attempts) {
-            return NO_OFFER;
+            return nbr_metric_spec::NO_OFFER;
         }
         let cost = path_cost(place);
-        if cost <= HIGHEST_RANK {
+        if cost <= nbr_metric_spec::HIGHEST_RANK {
             return cost;
         }
-        return NO_OFFER;
+        return nbr_metric_spec::NO_OFFER;
     }
-    NO_OFFER
+    nbr_metric_spec::NO_OFFER
 }
 
 // Whether a neighbour may be a parent.
 pub fn eligible(place: Place) -> bool
     ensures { λ r. ⌜ r ≡ isEligible place ⌝ }
 {
-    offer(place) < NO_OFFER
+    offer(place) < nbr_metric_spec::NO_OFFER
 }

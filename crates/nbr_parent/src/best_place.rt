@@ -1,13 +1,7 @@
 // One walk over the places of a table for an evaluation: what the best place offers, by least path cost, then lower identifier, and
 // the place of the held parent. The rules are those of docs/RULES.md, Neighbours.
-use crate::held_parent::id_of;
-use crate::held_parent::mark_of;
-use nbr_metric::offer;
-use nbr_metric_spec::NO_OFFER;
 use nbr_metric_spec::Place;
 use nbr_table_spec::Offer;
-use nbr_table_spec::PLACES;
-use nbr_table_spec::Parent;
 use nbr_table_spec::Sought;
 use nbr_table_spec::Survey;
 ghost use mathlib.Core.Path.{_≡_};
@@ -49,25 +43,25 @@ fn sought(found: Sought, place: Place, id: u64) -> Sought
 }
 
 // What the best place offers, with its identifier (NO_OFFER with 0 if no place is eligible), and the place of the held parent.
-pub fn survey(places: [Place; 32], parent: Parent) -> Survey
+pub fn survey(places: [Place; 32], parent: nbr_table_spec::Parent) -> Survey
     ensures { λ r. ⌜ r ≡ surveyed places parent ⌝ }
 {
-    let id = id_of(parent);
+    let id = crate::held_parent::id_of(parent);
     let mut found = Sought {
-        missing: mark_of(parent),
+        missing: crate::held_parent::mark_of(parent),
         place: nbr_metric_spec::blank(),
     };
     let mut kept = Offer {
-        cost: NO_OFFER,
+        cost: nbr_metric_spec::NO_OFFER,
         id: 0,
     };
     let mut i = 0;
-    while i < PLACES {
+    while i < nbr_table_spec::PLACES {
         let place = places[i];
         kept = lower(
             kept,
             Offer {
-                cost: offer(place),
+                cost: nbr_metric::offer(place),
                 id: place.id,
             },
         );

@@ -1,12 +1,5 @@
 // The choice of the parent between the held one and the best one. The rules are those of docs/RULES.md, Neighbours.
-use crate::best_place::survey;
-use nbr_metric::offer;
-use nbr_metric_spec::INFINITE_RANK;
-use nbr_metric_spec::NO_OFFER;
-use nbr_metric_spec::Place;
 use nbr_table_spec::Choice;
-use nbr_table_spec::HYSTERESIS;
-use nbr_table_spec::Offer;
 use nbr_table_spec::Parent;
 use nbr_table_spec::Settlement;
 ghost use mathlib.Core.Path.{_≡_};
@@ -19,7 +12,7 @@ pub mod best_place;
 pub mod held_parent;
 
 // The neighbour of an offer becomes the parent.
-fn take(taken: Offer) -> Choice
+fn take(taken: nbr_table_spec::Offer) -> Choice
     requires { ⌜ taken .cost < 65535 ⌝ }
     ensures { λ r. ⌜ r ≡ choiceWith (Held (taken .id)) (taken .cost) ⌝ }
 {
@@ -30,16 +23,16 @@ fn take(taken: Offer) -> Choice
 }
 
 // The parent that is held from now on and the own rank, with the place of the parent that was held.
-pub fn settle(places: [Place; 32], parent: Parent) -> Settlement
+pub fn settle(places: [nbr_metric_spec::Place; 32], parent: Parent) -> Settlement
     ensures { λ r. ⌜ r ≡ settlement places parent ⌝ }
 {
-    let found = survey(places, parent);
+    let found = crate::best_place::survey(places, parent);
     let best = found.best;
     let held = found.held;
-    let cost = offer(held);
-    if best.cost < NO_OFFER {
-        if cost < NO_OFFER {
-            if best.cost + HYSTERESIS < cost {
+    let cost = nbr_metric::offer(held);
+    if best.cost < nbr_metric_spec::NO_OFFER {
+        if cost < nbr_metric_spec::NO_OFFER {
+            if best.cost + nbr_table_spec::HYSTERESIS < cost {
                 return Settlement {
                     choice: take(best),
                     held,
@@ -58,7 +51,7 @@ pub fn settle(places: [Place; 32], parent: Parent) -> Settlement
     }
     let none = Choice {
         parent: Parent::None,
-        rank: INFINITE_RANK,
+        rank: nbr_metric_spec::INFINITE_RANK,
     };
     Settlement { choice: none, held }
 }

@@ -1,8 +1,5 @@
 // What is counted after some rows, and one row more.
-use nbr_metric::increment::minus;
 use nbr_replay_spec::Counts;
-use nbr_replay_spec::EVALUATE;
-use nbr_replay_spec::Visit;
 ghost use mathlib.Core.Path.{_≡_};
 ghost use mathlib.Core.Bool.{_&&_, false};
 ghost use Prim.Native.Nat.{_+_, _-_, _<_, _≤_, _^_};
@@ -32,7 +29,7 @@ fn rises_with(counts: Counts, entry: u32) -> u64
     if counts.evaluations == 0 {
         return 0;
     }
-    counts.rises + minus(entry, counts.last) as u64
+    counts.rises + nbr_metric::increment::minus(entry, counts.last) as u64
 }
 
 // The first cost with an evaluation more.
@@ -56,12 +53,12 @@ fn eligible_with(before: bool, here: bool) -> bool
 }
 
 // One row more: only an evaluation is counted.
-pub(crate) fn counted(counts: Counts, kind: u8, visit: Visit) -> Counts
+pub(crate) fn counted(counts: Counts, kind: u8, visit: nbr_replay_spec::Visit) -> Counts
     requires { ⌜ Room counts × (visit .change ≤ 1) × (visit .entry < 2 ^ 30) ⌝ }
     ensures value { λ r. ⌜ r ≡ countedOf kind counts visit ⌝ }
     ensures bound { λ r. ⌜ OneMore counts r ⌝ }
 {
-    if kind < EVALUATE {
+    if kind < nbr_replay_spec::EVALUATE {
         return counts;
     }
     Counts {

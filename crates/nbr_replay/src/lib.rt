@@ -1,10 +1,7 @@
 // Runs a log of calls on a table, and counts what the claim that parents do not flap speaks of.
 // A log is four lent lists, one row for each call (specs/Log.antt of nbr_replay_spec).
 use nbr_replay_spec::Outcome;
-use nbr_table_spec::PLACES;
 use nbr_table_spec::Table;
-use refusal::DONE;
-use refusal::OUT_OF_LIMITS;
 
 mod count;
 mod step;
@@ -27,7 +24,7 @@ fn refused(table: Table) -> Outcome
     ensures { λ r. ⌜ r ≡ refusedReplay outOfLimits table ⌝ }
 {
     Outcome {
-        number: OUT_OF_LIMITS,
+        number: refusal::OUT_OF_LIMITS,
         table,
         evaluations: 0,
         changes: 0,
@@ -54,7 +51,7 @@ fn run(table: Table, kinds: &[u8], ids: &[u64], values: &[u16], flags: &[u8]) ->
         counts = count::counted(counts, kind, step.visit);
         parent = step.parent;
         let at = step.at;
-        if at < PLACES {
+        if at < nbr_table_spec::PLACES {
             let place = step.place;
             places[at] = place;
             continue;
@@ -62,7 +59,7 @@ fn run(table: Table, kinds: &[u8], ids: &[u64], values: &[u16], flags: &[u8]) ->
     }
     let ended = Table { places, parent };
     Outcome {
-        number: DONE,
+        number: refusal::DONE,
         table: ended,
         evaluations: counts.evaluations,
         changes: counts.changes,

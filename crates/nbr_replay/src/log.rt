@@ -1,6 +1,4 @@
 // A log of calls as four lent lists, one row for each call: which logs are refused (specs/Log.antt of nbr_replay_spec).
-use nbr_replay_spec::EVALUATE;
-use nbr_replay_spec::MOST_ROWS;
 ghost use mathlib.Core.Path.{_≡_};
 ghost use Rattle.nbr_replay_spec.specs.Log.{equallyLong, log, someOver, unfitLog};
 
@@ -36,10 +34,10 @@ pub fn is_unfit(kinds: &[u8], ids: &[u64], values: &[u16], flags: &[u8]) -> bool
     ensures { λ r. ⌜ r ≡ unfitLog (log (now (kinds .entry)) (now (ids .entry)) (now (values .entry)) (now (flags .entry))) ⌝ }
 {
     if are_equally_long(kinds, ids, values, flags) {
-        if MOST_ROWS < kinds.len() {
+        if nbr_replay_spec::MOST_ROWS < kinds.len() {
             return true;
         }
-        if any_over(kinds, EVALUATE) {
+        if any_over(kinds, nbr_replay_spec::EVALUATE) {
             return true;
         }
         return any_over(flags, 1);

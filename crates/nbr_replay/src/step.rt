@@ -1,19 +1,7 @@
 // One row of a log on a table that breaks no rule: what the call of that row stores. Every call keeps such a table so, and
 // therefore none of them is tested again.
-use crate::visit::seen;
-use nbr_calls::advertise::advertising;
-use nbr_calls::forget::forgetting;
-use nbr_calls::forget::without;
-use nbr_calls::report::reporting;
-use nbr_metric_spec::Place;
-use nbr_parent::settle;
-use nbr_replay_spec::ADVERTISE;
-use nbr_replay_spec::FORGET;
-use nbr_replay_spec::REPORT;
 use nbr_replay_spec::Step;
 use nbr_replay_spec::Visit;
-use nbr_table_spec::PLACES;
-use nbr_table_spec::Parent;
 ghost use mathlib.Core.Path.{_≡_};
 ghost use mathlib.Core.Bool.{false};
 ghost use Rattle.nbr_table_spec.specs.Calls.{broken};
@@ -34,8 +22,8 @@ fn unseen() -> Visit
 
 // The step of a row; specs/Log.antt says how a row is read.
 pub(crate) fn step(
-    places: [Place; 32],
-    parent: Parent,
+    places: [nbr_metric_spec::Place; 32],
+    parent: nbr_table_spec::Parent,
     kind: u8,
     id: u64,
     value: u16,
@@ -44,8 +32,8 @@ pub(crate) fn step(
     requires { ⌜ broken (record { places = places; parent = parent }) ≡ false ⌝ }
     ensures { λ r. ⌜ IsStep (record { places = places; parent = parent }) kind (call kind id value flag) r ⌝ }
 {
-    if kind == ADVERTISE {
-        let change = advertising(places, id, value);
+    if kind == nbr_replay_spec::ADVERTISE {
+        let change = nbr_calls::advertise::advertising(places, id, value);
         let place = change.place;
         return Step {
             at: change.at,
@@ -54,8 +42,8 @@ pub(crate) fn step(
             visit: unseen(),
         };
     }
-    if kind == REPORT {
-        let change = reporting(places, id, value as u32, flag == 1);
+    if kind == nbr_replay_spec::REPORT {
+        let change = nbr_calls::report::reporting(places, id, value as u32, flag == 1);
         let place = change.place;
         return Step {
             at: change.at,
@@ -64,23 +52,23 @@ pub(crate) fn step(
             visit: unseen(),
         };
     }
-    if kind == FORGET {
-        let change = forgetting(places, id);
+    if kind == nbr_replay_spec::FORGET {
+        let change = nbr_calls::forget::forgetting(places, id);
         let place = change.place;
         return Step {
             at: change.at,
             place,
-            parent: without(parent, id),
+            parent: nbr_calls::forget::without(parent, id),
             visit: unseen(),
         };
     }
-    let settlement = settle(places, parent);
+    let settlement = nbr_parent::settle(places, parent);
     let choice = settlement.choice;
     let left = choice.parent;
     Step {
-        at: PLACES,
+        at: nbr_table_spec::PLACES,
         place: nbr_metric_spec::blank(),
         parent: left,
-        visit: seen(settlement.held, parent, choice),
+        visit: crate::visit::seen(settlement.held, parent, choice),
     }
 }

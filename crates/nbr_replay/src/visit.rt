@@ -1,8 +1,4 @@
 // What one evaluation shows to the claim that parents do not flap.
-use nbr_metric::path_cost;
-use nbr_metric_spec::Place;
-use nbr_parent::held_parent::mark_of;
-use nbr_parent::held_parent::same;
 use nbr_replay_spec::Visit;
 use nbr_table_spec::Choice;
 use nbr_table_spec::Parent;
@@ -18,7 +14,7 @@ fn change(before: Parent, after: Parent) -> u32
     ensures value { λ r. ⌜ r ≡ cond (sameParent before after) 0 1 ⌝ }
     ensures bound { λ r. ⌜ r ≤ 1 ⌝ }
 {
-    if same(before, after) {
+    if nbr_parent::held_parent::same(before, after) {
         return 0;
     }
     1
@@ -29,21 +25,21 @@ fn exit_of(choice: Choice) -> u32
     ensures { λ r. ⌜ r ≡ ifOn (markOf (choice .parent)) (choice .rank) 0 ⌝ }
 {
     let left = choice.parent;
-    if mark_of(left) {
+    if nbr_parent::held_parent::mark_of(left) {
         return choice.rank as u32;
     }
     0
 }
 
 // What an evaluation shows that found a parent held, at this place, and made this choice.
-pub fn seen(held: Place, before: Parent, choice: Choice) -> Visit
+pub fn seen(held: nbr_metric_spec::Place, before: Parent, choice: Choice) -> Visit
     ensures value { λ r. ⌜ r ≡ shown held before choice ⌝ }
     ensures bound { λ r. ⌜ (r .change ≤ 1) × (r .entry < 2 ^ 30) ⌝ }
 {
     let after = choice.parent;
     Visit {
         change: change(before, after),
-        entry: path_cost(held),
+        entry: nbr_metric::path_cost(held),
         exit: exit_of(choice),
         eligible: nbr_metric::eligible(held),
     }

@@ -1,8 +1,5 @@
 // What a log of calls on a table comes to: definitions (specs/) and the types that they speak of.
 // The rules are those of docs/RULES.md, Parents do not flap.
-use nbr_metric_spec::Place;
-use nbr_table_spec::Parent;
-use nbr_table_spec::Table;
 
 // The most rows that a log may have.
 pub const MOST_ROWS: usize = 65535;
@@ -21,7 +18,7 @@ pub const EVALUATE: u8 = 3;
 // last, and whether the claim applies: at least one evaluation, and at each an eligible parent on entry.
 pub struct Outcome {
     pub number: u8,
-    pub table: Table,
+    pub table: nbr_table_spec::Table,
     pub evaluations: u32,
     pub changes: u32,
     pub rises: u64,
@@ -53,7 +50,7 @@ pub struct Visit {
 // an evaluation, what it shows.
 pub struct Step {
     pub at: usize,
-    pub place: Place,
-    pub parent: Parent,
+    pub place: nbr_metric_spec::Place,
+    pub parent: nbr_table_spec::Parent,
     pub visit: Visit,
 }

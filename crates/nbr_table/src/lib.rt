@@ -1,7 +1,4 @@
 // Whether a table breaks a rule, which every call asks first. The rules are those of docs/RULES.md, Neighbours.
-use crate::place_limits::is_unfit;
-use nbr_metric_spec::Place;
-use nbr_table_spec::PLACES;
 use nbr_table_spec::Parent;
 ghost use mathlib.Core.Path.{_≡_};
 ghost use Prim.Native.Nat.{_≤_};
@@ -28,16 +25,16 @@ fn stands(ids: &[u64; 32], count: usize, id: u64) -> bool
 
 // Whether the table of these places and this held parent breaks a rule: one walk over the places, which gathers the identifiers
 // in use.
-pub fn is_broken(places: [Place; 32], parent: Parent) -> bool
+pub fn is_broken(places: [nbr_metric_spec::Place; 32], parent: Parent) -> bool
     ensures { λ r. ⌜ r ≡ broken (record { places = places; parent = parent }) ⌝ }
 {
     let mut ids = [0; 32];
     let mut count = 0;
     let mut i = 0;
-    while i < PLACES {
+    while i < nbr_table_spec::PLACES {
         let place = places[i];
         i += 1;
-        if is_unfit(place) {
+        if crate::place_limits::is_unfit(place) {
             return true;
         }
         if place.used {

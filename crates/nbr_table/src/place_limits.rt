@@ -1,6 +1,5 @@
 // Which places of a table break a rule by themselves. The rules are those of docs/RULES.md, Neighbours.
 use nbr_metric_spec::Place;
-use nbr_table_spec::MOST_COUNTED;
 ghost use mathlib.Core.Path.{_≡_};
 ghost use Rattle.nbr_table_spec.specs.Places.{nonzero, unfit};
 
@@ -24,7 +23,7 @@ fn is_nonzero(place: Place) -> bool
 pub fn is_unfit(place: Place) -> bool
     ensures { λ r. ⌜ r ≡ unfit place ⌝ }
 {
-    if MOST_COUNTED < place.attempts {
+    if nbr_table_spec::MOST_COUNTED < place.attempts {
         return true;
     }
     if place.attempts < place.acked {

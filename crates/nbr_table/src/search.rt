@@ -1,6 +1,5 @@
 // Looking for a place, lowest-numbered first. A place that is not there has the number 32.
 use nbr_metric_spec::Place;
-use nbr_table_spec::PLACES;
 ghost use mathlib.Core.Path.{_≡_};
 ghost use Rattle.nbr_table_spec.specs.Places.{free, named};
 ghost use Rattle.nbr_table_spec.specs.Search.{firstFrom};
@@ -20,7 +19,7 @@ pub fn find(places: [Place; 32], from: usize, id: u64) -> usize
     ensures { λ r. ⌜ r ≡ firstFrom (named id) from places ⌝ }
 {
     let mut i = from;
-    while i < PLACES {
+    while i < nbr_table_spec::PLACES {
         if is_named(places[i], id) {
             return i;
         }
@@ -44,7 +43,7 @@ pub fn find_free(places: [Place; 32]) -> usize
     ensures { λ r. ⌜ r ≡ firstFrom free 0 places ⌝ }
 {
     let mut i = 0;
-    while i < PLACES {
+    while i < nbr_table_spec::PLACES {
         if is_free(places[i]) {
             return i;
         }

@@ -4,15 +4,13 @@ ghost use Rattle.slot_spec.specs.Slot.{limits, transmitOn, listenOn, action};
 ghost use Rattle.slot_spec.specs.Scan.{foundOf, concluded};
 use slot_spec::Decision;
 use slot_spec::Found;
-use slot_spec::Scan;
-use slot_spec::Search;
 
 // The most links that a schedule may have.
 const MOST_LINKS: usize = 16;
 // The last ASN: an ASN has five bytes.
 const LAST_ASN: u64 = 0xFF_FFFF_FFFF;
 
-fn result(search: Search) -> Found
+fn result(search: slot_spec::Search) -> Found
     ensures { λ r. ⌜ r ≡ foundOf search ⌝ }
 {
     if search.found {
@@ -63,7 +61,7 @@ fn act(asn: u64, waits: bool, sends: Found, hears: Found) -> Decision
     awaited
 }
 
-pub fn conclude(seen: Scan, count: usize, id: u32, asn: u64, waits: bool) -> Decision
+pub fn conclude(seen: slot_spec::Scan, count: usize, id: u32, asn: u64, waits: bool) -> Decision
     ensures { λ r. ⌜ r ≡ concluded seen count id asn waits ⌝ }
 {
     if within(seen.size, count, seen.below, id, asn) {

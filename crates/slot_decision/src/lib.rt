@@ -5,8 +5,6 @@ ghost use lib.ListN.{take};
 ghost use Rattle.octets_spec.specs.Choice.{ifLt};
 ghost use Rattle.slot_spec.specs.Slot.{decision};
 ghost use Rattle.slot_spec.specs.Scan.{begun};
-use crate::conclusion::conclude;
-use crate::scan::step;
 use eb_record_spec::Link;
 use slot_spec::Decision;
 use slot_spec::Scan;
@@ -44,9 +42,9 @@ pub fn decide(links: &[Link], size: u32, id: u32, asn: u64, waits: bool) -> Deci
     let mut i = links.len();
     while 0 < i {
         i -= 1;
-        seen = step(seen, links[i], i);
+        seen = crate::scan::step(seen, links[i], i);
     }
-    conclude(seen, links.len(), id, asn, waits)
+    crate::conclusion::conclude(seen, links.len(), id, asn, waits)
 }
 
 // The same of the first `count` links of an array that is passed by value.
@@ -67,7 +65,7 @@ pub fn decide_listed(
     let mut index = count;
     while 0 < index {
         index -= 1;
-        seen = step(seen, links[index], index);
+        seen = crate::scan::step(seen, links[index], index);
     }
-    conclude(seen, count, id, asn, waits)
+    crate::conclusion::conclude(seen, count, id, asn, waits)
 }

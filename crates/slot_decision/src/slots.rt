@@ -2,8 +2,6 @@
 ghost use mathlib.Core.Path.{_≡_};
 ghost use Rattle.slot_spec.specs.Slot.{slotOffset};
 ghost use Rattle.slot_spec.specs.Answer.{answerOf};
-use refusal::DONE;
-use refusal::OUT_OF_LIMITS;
 use slot_spec::Decision;
 use slot_spec::SlotAnswer;
 
@@ -23,25 +21,25 @@ pub fn answer(decision: Decision) -> SlotAnswer
 {
     match decision {
         Decision::Refused => SlotAnswer {
-            number: OUT_OF_LIMITS,
+            number: refusal::OUT_OF_LIMITS,
             action: 0,
             channel: 0,
             index: 0,
         },
         Decision::Sleep => SlotAnswer {
-            number: DONE,
+            number: refusal::DONE,
             action: 0,
             channel: 0,
             index: 0,
         },
         Decision::Transmit(index, channel) => SlotAnswer {
-            number: DONE,
+            number: refusal::DONE,
             action: 1,
             channel,
             index,
         },
         Decision::Listen(index, channel) => SlotAnswer {
-            number: DONE,
+            number: refusal::DONE,
             action: 2,
             channel,
             index,

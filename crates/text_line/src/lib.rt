@@ -6,8 +6,6 @@ ghost use lib.ListN.{length, take, drop};
 ghost use Rattle.eb_read_spec.specs.Read.{readFrame};
 ghost use Rattle.io.specs.Counts.{Counts};
 ghost use Rattle.text_line_spec.specs.Line.{decimal, field, synchronizationText, slotframeText, acceptedText, refusedText, lineOf, newline, PartPut};
-use eb_record_spec::Beacon;
-use refusal::DONE;
 
 // Each of these puts a part of the line from an offset on, and answers the offset behind it.
 fn put_text(buffer: &mut [u8], at: usize, text: &[u8]) -> usize
@@ -64,7 +62,7 @@ fn put_slotframe(buffer: &mut [u8], at: usize, size: u16, links: u8) -> usize
     put_newline(buffer, last)
 }
 
-fn put_accepted(buffer: &mut [u8], beacon: Beacon) -> usize
+fn put_accepted(buffer: &mut [u8], beacon: eb_record_spec::Beacon) -> usize
     requires { ⌜ 128 ≤ length (now buffer) ⌝ }
     ensures { λ r. ⌜ PartPut (now (buffer .entry)) 0 (acceptedText beacon) (now (buffer .exit)) r × (r ≤ 128) ⌝ }
 {
@@ -96,7 +94,7 @@ pub fn bench_line(s: &[u8], buffer: &mut [u8]) -> usize
         return 0;
     }
     let answer = eb_read::read(s);
-    if answer.number != DONE {
+    if answer.number != refusal::DONE {
         return put_refused(buffer, answer.number);
     }
     put_accepted(buffer, answer.beacon)

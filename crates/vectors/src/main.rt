@@ -2,19 +2,15 @@
 // src/ has what they must be.
 ghost use Prim.Native.Nat.{_≤_};
 use eb_record_spec::Link;
-use libc::STDOUT_FILENO;
 use nbr_metric_spec::Place;
-use nbr_table_spec::Parent;
-use nbr_table_spec::Table;
-use slot_spec::SlotAnswer;
 
 // The last ASN: an ASN has five bytes.
 const LAST_ASN: u64 = 0xFF_FFFF_FFFF;
 
 // Writes a number and the byte behind it.
 fn put(number: u64, end: u8) {
-    io::print_decimal(STDOUT_FILENO, number);
-    io::write_all(STDOUT_FILENO, &[end]);
+    io::print_decimal(libc::STDOUT_FILENO, number);
+    io::write_all(libc::STDOUT_FILENO, &[end]);
 }
 
 fn channel(asn: u64, channel_offset: u16) {
@@ -24,7 +20,7 @@ fn channel(asn: u64, channel_offset: u16) {
 }
 
 fn channels() {
-    io::write_all(STDOUT_FILENO, b"asn, offset: channel\n");
+    io::write_all(libc::STDOUT_FILENO, b"asn, offset: channel\n");
     channel(11, 0);
     channel(LAST_ASN, 0);
     channel(LAST_ASN, 1);
@@ -39,7 +35,7 @@ fn asked(count: usize, size: u32, id: u32, asn: u64, waits: bool) {
     put(waits as u64, b' ');
 }
 
-fn answered(answer: SlotAnswer) {
+fn answered(answer: slot_spec::SlotAnswer) {
     put(answer.number as u64, b' ');
     put(answer.action as u64, b' ');
     put(answer.index as u64, b' ');
@@ -87,7 +83,7 @@ fn mixed(count: usize, size: u32, asn: u64, waits: bool) {
 
 fn slots() {
     io::write_all(
-        STDOUT_FILENO,
+        libc::STDOUT_FILENO,
         b"links, size, sequence, asn, waiting: number, action (0 sleep, 1 transmit, 2 listen), index, channel\n",
     );
     minimal(1, 11, 0, 256, true);
@@ -125,9 +121,9 @@ fn neighbour(rank: u16) -> [Place; 32] {
 
 // The own rank of a child that has it as its parent.
 fn child(rank: u16) -> u16 {
-    let evaluated = nbr_calls::evaluate::evaluate(Table {
+    let evaluated = nbr_calls::evaluate::evaluate(nbr_table_spec::Table {
         places: neighbour(rank),
-        parent: Parent::None,
+        parent: nbr_table_spec::Parent::None,
     });
     evaluated.rank
 }
@@ -146,7 +142,7 @@ fn hop(rank: u16) -> u16 {
 // RFC 8180's example of five hops: each adds 512.
 fn hops() {
     io::write_all(
-        STDOUT_FILENO,
+        libc::STDOUT_FILENO,
         b"rank: join metric's number, metric, child's own rank\n",
     );
     let first = hop(256);
@@ -210,7 +206,7 @@ fn cut(length: usize)
 // The whole beacon, and cut by a byte, behind 0x7E, behind the source, in the source, and to nothing.
 fn frames() {
     io::write_all(
-        STDOUT_FILENO,
+        libc::STDOUT_FILENO,
         b"beacon of 38 bytes and cuts of it, zeros, RFC 8180 A.1, A.2 as printed, A.2 with a group of 50 bytes\nlength: number, asn, metric, size, links, template, timeslot length\n",
     );
     cut(38);
