@@ -157,7 +157,7 @@ struct tesolvagna_slotframe {
     /* How many slots the slotframe has, at least 1. */
     uint16_t size;
     /* How many links it has, 1 to 16. */
-    uint8_t link_count;
+    uint16_t link_count;
     /* The links, all 0 from link_count on. */
     struct tesolvagna_link links[TESOLVAGNA_MOST_LINKS];
 };

@@ -43,7 +43,7 @@ int main(void)
     SIZE(slotframe, 102);
     FIELD(slotframe, handle, 0, 1);
     FIELD(slotframe, size, 2, 2);
-    FIELD(slotframe, link_count, 4, 1);
+    FIELD(slotframe, link_count, 4, 2);
     FIELD(slotframe, links, 6, 96);
 
     SIZE(joining, 40);

@@ -63,7 +63,7 @@ impl c::Beacon {
             slotframe: c::Slotframe {
                 handle: beacon.handle,
                 size: beacon.size,
-                link_count: beacon.count as u8,
+                link_count: beacon.count as u16,
                 links: links_of(&beacon.links),
             },
             joining: match &beacon.joining {

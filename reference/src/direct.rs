@@ -211,7 +211,7 @@ fn fill_slotframe(content: &[u8], met: &mut u8, out: &mut Beacon) -> Result<(), 
     }
     out.slotframe.handle = content[1];
     out.slotframe.size = size;
-    out.slotframe.link_count = count;
+    out.slotframe.link_count = count.into();
     for (link, bytes) in out.slotframe.links.iter_mut().zip(content[5..].chunks_exact(5)) {
         let timeslot = le16(bytes, 0);
         if timeslot >= size {

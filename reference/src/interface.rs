@@ -141,7 +141,7 @@ structs! {
     pub struct Slotframe ("slotframe") {
         pub handle: u8,
         pub size: u16,
-        pub link_count: u8,
+        pub link_count: u16,
         pub links: [Link; MOST_LINKS],
     }
 

@@ -183,7 +183,7 @@ impl Shape {
             hopping: random_number(random, 0xFF) as u8,
             handle: random_number(random, 0xFF) as u8,
             size,
-            count: self.links as u8,
+            count: self.links as u16,
             links,
             joining: self
                 .joining
@@ -263,7 +263,7 @@ fn visit_worked(visit: &mut Visit) {
 }
 
 /// How many bits a record has; a flag has one.
-const BITS: usize = 6 + 25 * 8 + 51 * 16 + 12 * 32 + 3 * 64;
+const BITS: usize = 6 + 24 * 8 + 52 * 16 + 12 * 32 + 3 * 64;
 
 /// Inverts a bit of a record, of those numbered below `BITS`.
 fn flip(beacon: &mut c::Beacon, bit: usize) {
@@ -366,7 +366,7 @@ fn break_limit(random: &mut Random, record: &mut Record, limit: Limit) {
             }
         }
         Limit::TooManyLinks => {
-            record.count = over(random, record.count.into(), MOST_LINKS as u64, u8::MAX.into()) as u8;
+            record.count = over(random, record.count.into(), MOST_LINKS as u64, u16::MAX.into()) as u16;
         }
         Limit::LinkTimeslot => {
             let place = match random.below(3) {

@@ -33,7 +33,7 @@ pub struct Record {
     pub hopping: u8,
     pub handle: u8,
     pub size: u16,
-    pub count: u8,
+    pub count: u16,
     pub links: [Link; MOST_LINKS],
     pub joining: Joining,
 }
@@ -290,7 +290,7 @@ fn put_slotframe(record: &Record, rest: &mut Rest) {
     // One slotframe.
     rest.put(&[1, record.handle]);
     rest.put(&record.size.to_le_bytes());
-    rest.put(&[record.count]);
+    rest.put(&[record.count as u8]);
     for link in record.used_links() {
         rest.put(&link.timeslot.to_le_bytes());
         rest.put(&link.offset.to_le_bytes());
@@ -371,7 +371,7 @@ impl Record {
             hopping: beacon.hopping,
             handle: beacon.handle,
             size: beacon.size,
-            count: u8::try_from(beacon.count).expect("at most 16 links"),
+            count: u16::try_from(beacon.count).expect("at most 16 links"),
             links: beacon.links,
             joining: joining.unwrap_or_default(),
         }

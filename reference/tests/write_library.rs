@@ -87,7 +87,7 @@ fn library_writes_as_the_reference() {
         records += 1;
     });
     println!("{records} records, {frames} frames read back and written again");
-    assert!(records >= 1_463_292 && frames >= 325_000);
+    assert!(records >= 1_464_732 && frames >= 325_000);
     coverage.expect(LEAST);
 }
 

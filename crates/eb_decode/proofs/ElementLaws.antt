@@ -1,5 +1,5 @@
 -- The laws of the elements: the arrays that loops fill, and each element from its fields. Assumes nothing.
-use Prim.Native.Nat.{ℕ, _+_, _-_, _*_, _/_, _%_, _<_, _≤_, min}
+use Prim.Native.Nat.{ℕ, zero, suc, _+_, _-_, _*_, _/_, _%_, _<_, _≤_, min}
 use mathlib.Core.Path.{_≡_, refl, _∙_}
 use mathlib.Core.Bool.{true}
 use mathlib.Core.List.{List}
@@ -57,6 +57,13 @@ module _ (s : List ℕ) (at to : ℕ) where
     template-timed id all i (inr (inr e)) f = absurd (timed e)
 
 -- ---- joining information
+-- the address of the join proxy from the eight bytes before the network ID
+pub proxy-is : (s : List ℕ) (at proxied n r : ℕ) → proxied < 2 → 4 ≤ at → n ≡ beAt 8 s (at - 4 + 8 * proxied) → r ≡ ifEq proxied 1 n 0 → r ≡ ifEq proxied 1 (beAt 8 s (at + 4)) 0
+unfolding ifEq
+proxy-is s at zero n r flag low e f = f
+proxy-is s at (suc zero) n r flag low e f = let offset : at - 4 + 8 * 1 ≡ at + 4 = omega arith in f ∙ rw (e, offset)
+proxy-is s at (suc (suc k)) n r flag low e f = absurd (omega arith)
+
 module _ (s : List ℕ) (at to : ℕ) where
   pub joining-there : ((at ≡ 0 → ⊥) → JoiningInside s at to) → (at ≡ 0 → ⊥) → JoiningInside s at to
   joining-there inside some = inside some
@@ -81,4 +88,4 @@ module _ (s : List ℕ) (at to : ℕ) where
         let short : size ≡ min size 16 = omega (arith, inside .most, high) in
         joining-is s at to word _ size address all some e (network-from s at word e) short f g
 
-pub ruleset elements = (choices, filling, synchronizes, timing-two, timing-ten, timing-eleven, timeslot-ordered, timeslot-starts, timings-width, timings-inside, template-bare, template-timed, links-at, slotframe-is, joining-absent, joining-there, joining-is-present)
+pub ruleset elements = (choices, filling, synchronizes, timing-two, timing-ten, timing-eleven, timeslot-ordered, timeslot-starts, timings-width, timings-inside, template-bare, template-timed, links-at, slotframe-is, joining-absent, proxy-is, joining-there, joining-is-present)

@@ -4,12 +4,12 @@ use mathlib.Core.Path.{_≡_, refl, sym, _∙_, ap}
 use mathlib.Core.List.{List}
 use native.Mathlib.Nat.{pow-succ', mul-assoc, mul-add, mul-comm, add-zero}
 use native.Mathlib.Omega.{arith}
-use lib.Dec.{lit<}
+use mir.Syntax.{w32, w64}
+use mir.Val.{Fits}
 use lib.Pow.{pow-add}
 use lib.ListN.{getD}
-use Rattle.octets_spec.specs.Choice.{ifEq}
 use Rattle.octets_spec.specs.Number.{leAt, beAt}
-use Rattle.octets_spec.proofs.ChoiceLaws.{either-eq, choices}
+use Rattle.octets_spec.proofs.ChoiceLaws.{choices}
 
 -- ---- in either order, the bytes of a number are those of its two parts
 le-split : (m n : ℕ) (s : List ℕ) (at : ℕ) → leAt (m + n) s at ≡ leAt m s at + 256 ^ m * leAt n s (at + m)
@@ -58,13 +58,28 @@ module _ (s : List ℕ) (at a b : ℕ) where
   be-eight e f = rw (e, f) (sym (be-split 4 4 s at))
 
 -- a number of 2 bytes, or of 3 where the third counts
-pub le-last : (wide : ℕ) (s : List ℕ) (at third a c : ℕ) → a ≡ leAt 2 s at → c ≡ ifEq wide 0 0 (getD s third 0) → wide ≤ 1 → (wide ≡ 1 → third ≡ at + 2) → a + 65536 * c ≡ leAt (2 + wide) s at
-unfolding leAt ifEq
+pub le-last : (wide : ℕ) (s : List ℕ) (at third a c : ℕ) → a ≡ leAt 2 s at → c ≡ getD s third 0 → wide ≤ 1 → (wide ≡ 1 → third ≡ at + 2) → a + 65536 * (wide * c) ≡ leAt (2 + wide) s at
+unfolding leAt
 le-last zero s at third a c e g h k = rw (g, e) (omega arith)
 le-last (suc zero) s at third a c e g h k = rw (g, e, k refl) (omega (arith, le-split 2 1 s at))
 le-last (suc (suc n)) s at third a c e g h k = absurd (omega arith)
 
-pub third-is : (wide b r n : ℕ) → r ≡ ifEq wide 0 0 n → n ≡ b → n < 256 → (r ≡ ifEq wide 0 0 b) × (r < 256)
-third-is wide b r n f e lt = (f ∙ rw e, rw f (either-eq (λ k. k < 256) 0 n (lit< tt) lt wide 0))
+third-small : (wide c : ℕ) → wide ≤ 1 → c < 256 → wide * c < 256
+third-small zero c h lt = omega arith
+third-small (suc zero) c h lt = omega arith
+third-small (suc (suc n)) c h lt = absurd (omega arith)
 
-pub ruleset fixing = (choices, le-two, le-four, le-five, le-eight, be-two, be-four, be-eight, le-last, third-is)
+module _ (wide c : ℕ) (h : wide ≤ 1) (lt : c < 256) where
+  pub third-fits : Fits w64 (wide * c)
+  third-fits = record { fits = omega (arith, third-small wide c h lt) }
+
+  pub above-fits : Fits w64 (65536 * (wide * c))
+  above-fits = record { fits = omega (arith, third-small wide c h lt) }
+
+  pub last-fits : (a : ℕ) → a < 65536 → Fits w64 (a + 65536 * (wide * c))
+  last-fits a small = record { fits = omega (arith, third-small wide c h lt) }
+
+  pub last-short : (a : ℕ) → a < 65536 → Fits w32 (a + 65536 * (wide * c))
+  last-short a small = record { fits = omega (arith, third-small wide c h lt) }
+
+pub ruleset fixing = (choices, le-two, le-four, le-five, le-eight, be-two, be-four, be-eight, le-last, third-fits, above-fits, last-fits, last-short)

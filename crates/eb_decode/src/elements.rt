@@ -43,20 +43,13 @@ pub(crate) fn synchronization_at(s: &[u8], at: usize) -> Synchronization
     }
 }
 
-// The third byte of a timing of 3 bytes, and 0 for one of 2.
-fn third_byte(s: &[u8], third: usize, wide: usize) -> u64
-    requires { ⌜ third < length (now s) ⌝ }
-    ensures { λ r. ⌜ (r ≡ ifEq wide 0 0 (getD (now (s .entry)) third 0)) × (r < 256) ⌝ }
-{
-    fixed::choose(wide as u64, 0, 0, fixed::byte(s, third))
-}
-
-// One of the last two timings: of 2 bytes, or of 3 if `wide` is 1, where `third` is the offset of the third.
+// One of the last two timings: of 2 bytes, or of 3 if `wide` is 1, where `third` is the offset of the third. No branch: which of the two a
+// frame has cannot be foreseen.
 fn last(s: &[u8], at: usize, third: usize, wide: usize) -> u32
     requires { ⌜ (at + 2 ≤ length (now s)) × (third < length (now s)) × (wide ≤ 1) × (wide ≡ 1 → third ≡ at + 2) ⌝ }
     ensures { λ r. ⌜ r ≡ leAt (2 + wide) (now (s .entry)) at ⌝ }
 {
-    (fixed::le16(s, at) + BYTE_2 * third_byte(s, third, wide)) as u32
+    (fixed::le16(s, at) + BYTE_2 * (wide as u64 * fixed::byte(s, third))) as u32
 }
 
 // Timing k of twelve; the last two have 2 bytes, or 3 if `wide` is 1.
@@ -143,7 +136,7 @@ pub(crate) fn slotframe_at(s: &[u8], at: usize) -> Slotframe
     Slotframe {
         handle: fixed::byte(s, at + 1) as u8,
         size: fixed::le16(s, at + 2) as u16,
-        count: count as u8,
+        count: count as u16,
         links: links_at(s, at, count as usize),
     }
 }
@@ -162,15 +155,18 @@ fn network_within(s: &[u8], at: usize, skip: usize, size: usize) -> [u8; 16]
     all
 }
 
-// The address of the join proxy, which is there if P is 1.
+// The address of the join proxy, which is there if P is 1. Where eight bytes stand before the network ID, they are read, whatever P is.
 fn proxy_address(s: &[u8], at: usize, proxied: u64) -> u64
     requires { ⌜ (proxied < 2) × (at + (4 + 8 * proxied) ≤ length (now s)) ⌝ }
     ensures { λ r. ⌜ r ≡ ifEq proxied 1 (beAt 8 (now (s .entry)) (at + 4)) 0 ⌝ }
 {
-    if proxied == 1 {
-        return fixed::be64(s, at + 4);
+    if at < 4 {
+        if proxied == 1 {
+            return fixed::be64(s, at + 4);
+        }
+        return 0;
     }
-    0
+    fixed::choose(proxied, 1, fixed::be64(s, at - 4 + 8 * proxied as usize), 0)
 }
 
 // Joining information, which lies from an offset to another; at offset 0 there is none.

@@ -1,7 +1,9 @@
 // The checks of a frame: those before its elements, the walk over the elements, and what is missing.
 ghost use mathlib.Core.Path.{_≡_};
 ghost use Prim.Native.Nat.{_≤_};
-ghost use Rattle.eb_read_spec.specs.Read.{walkStart, elementsWalk, missing, walkNumber, blankWalk, elementsOffset, examined};
+ghost use lib.ListN.{length};
+ghost use Rattle.ie_walk_spec.specs.Walk.{headerList};
+ghost use Rattle.eb_read_spec.specs.Read.{walkStart, elementsWalk, missing, walkNumber, blankWalk, elementsOffset, examined, acceptedWalk};
 ghost use Rattle.eb_read_spec.specs.Inside.{AcceptedLiesInside};
 use eb_read_spec::Examination;
 use ie_walk_spec::HeaderListEnd;
@@ -39,19 +41,20 @@ fn blank_walk() -> Walk
     })
 }
 
-// The elements start behind the fixed fields.
-fn elements_offset(s: &[u8]) -> usize
-    ensures { λ r. ⌜ r ≡ elementsOffset (now (s .entry)) ⌝ }
+// The header list, which starts behind the fixed fields.
+fn header_list(s: &[u8]) -> HeaderListEnd
+    ensures { λ r. ⌜ r ≡ headerList (now (s .entry)) (elementsOffset (now (s .entry))) (length (now (s .entry))) ⌝ }
 {
     let offsets = mac_header::offsets_of(mac_header::control_of(octets::get::le(s, 0, 2)));
-    offsets.elements
+    let at = offsets.elements;
+    ie_walk::header_list::header_list(s, at, s.len())
 }
 
-// The header list, and the payload list if one follows.
-fn elements_walk(s: &[u8], at: usize, end: usize) -> Walk
-    ensures { λ r. ⌜ r ≡ elementsWalk (now (s .entry)) at end ⌝ }
+// The elements, of which the header list is read: the payload list if one follows.
+fn elements_walk(s: &[u8], head: HeaderListEnd) -> Walk
+    requires { ⌜ head ≡ headerList (now s) (elementsOffset (now s)) (length (now s)) ⌝ }
+    ensures { λ r. ⌜ r ≡ elementsWalk (now (s .entry)) (elementsOffset (now (s .entry))) (length (now (s .entry))) ⌝ }
 {
-    let head = ie_walk::header_list::header_list(s, at, end);
     let start = walk_start(head);
     if head.fault != 0 {
         return start;
@@ -60,7 +63,7 @@ fn elements_walk(s: &[u8], at: usize, end: usize) -> Walk
         return start;
     }
     let payload = head.payload;
-    ie_walk::payload_list::payload_list(s, payload, end, start)
+    ie_walk::payload_list::payload_list(s, payload, s.len(), start)
 }
 
 // Missing elements are judged last.
@@ -105,9 +108,24 @@ pub fn examine(s: &[u8]) -> Examination
             walk: blank_walk(),
         };
     }
-    let walk = elements_walk(s, elements_offset(s), s.len());
+    let walk = elements_walk(s, header_list(s));
     Examination {
         number: walk_number(walk),
         walk,
     }
+}
+
+// Where the known elements of an accepted frame are; no walk, if the frame is refused. It does not call `examine`, so that this has one
+// caller in the static library and is inlined there, which makes reading a tenth faster (docs/SPEED.md).
+pub fn accepted_walk(s: &[u8]) -> Walk
+    ensures { λ r. ⌜ r ≡ acceptedWalk (now (s .entry)) ⌝ }
+{
+    if crate::mac_header_fault::mac_header_fault(s) != refusal::DONE {
+        return blank_walk();
+    }
+    let walk = elements_walk(s, header_list(s));
+    if walk_number(walk) != refusal::DONE {
+        return blank_walk();
+    }
+    walk
 }

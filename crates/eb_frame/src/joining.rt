@@ -87,7 +87,7 @@ fn put_joining_rest(buffer: &mut [u8], at: usize, joining: JoiningInformation)
         buffer,
         at + width as usize,
         network,
-        eb_limits::sizes::at_most_16(joining.length),
+        eb_limits::sizes::at_most_16(joining.length as u16),
     );
 }
 

@@ -17,10 +17,10 @@ const BYTE_2: u64 = 0x1_0000;
 
 // The bytes of the header list's terminator and of the MLME group, in which sixteen links at most are written.
 fn before_joining(beacon: Beacon) -> usize
-    ensures { λ r. ⌜ (r ≡ 2 + length (beaconGroup beacon)) × (r ≤ 1326) ⌝ }
+    ensures { λ r. ⌜ (r ≡ 2 + length (beaconGroup beacon)) × (r ≤ 327726) ⌝ }
 {
     let used = eb_limits::sizes::at_most_16(beacon.slotframe.count);
-    4 + eb_limits::sizes::group_size(beacon.timeslot, used as u8)
+    4 + eb_limits::sizes::group_size(beacon.timeslot, used as u16)
 }
 
 // The elements: the header list's terminator, the MLME group, joining information.

@@ -47,7 +47,7 @@ fn present_fits(joining: JoiningInformation) -> bool
     ensures { λ r. ⌜ r ≡ presentFits joining ⌝ }
 {
     let network = joining.network;
-    let used = crate::sizes::at_most_16(joining.length);
+    let used = crate::sizes::at_most_16(joining.length as u16);
     (joining.proxy < OVER_7_BITS)
         & ((joining.rank < OVER_12_BITS)
             & (address_fits(joining)

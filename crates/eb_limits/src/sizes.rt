@@ -70,8 +70,8 @@ pub fn template_size(template: TimeslotTemplate) -> usize
 
 // The bytes of the MLME group behind its descriptor, with a timeslot element and so many links: synchronization has 8, the timeslot
 // element's descriptor 2, hopping 3, and what stands before the links 7.
-pub fn group_size(template: TimeslotTemplate, count: u8) -> usize
-    ensures { λ r. ⌜ (r ≡ groupSize template count) × (r ≤ 1322) ⌝ }
+pub fn group_size(template: TimeslotTemplate, count: u16) -> usize
+    ensures { λ r. ⌜ (r ≡ groupSize template count) × (r ≤ 327722) ⌝ }
 {
     20 + template_size(template) + 5 * count as usize
 }
@@ -113,7 +113,7 @@ pub fn frame_length(beacon: eb_record_spec::Beacon) -> usize
 }
 
 // The number of entries in use of an array of 16, and 16 for any number over 16.
-pub fn at_most_16(count: u8) -> usize
+pub fn at_most_16(count: u16) -> usize
     ensures { λ r. ⌜ (r ≡ min count 16) × (r ≤ 16) ⌝ }
 {
     if count < 16 {

@@ -1,7 +1,7 @@
 -- The laws of putting the MLME group, in the shape in which the code meets them. Assumes nothing.
 use Prim.Native.Nat.{ℕ, _+_, _*_, _/_, _%_}
 use mathlib.Core.Path.{_≡_, refl, sym, _∙_, ap}
-use mathlib.Core.List.{List, _++_, append-assoc, append-nil}
+use mathlib.Core.List.{List, _++_, append-assoc}
 use native.Mathlib.Omega.{arith}
 use lib.ListN.{length, length-append}
 use Rattle.octets_spec.specs.Number.{leBytes, stored}
@@ -11,21 +11,14 @@ use Rattle.eb_record_spec.specs.declared.TimeslotTemplate.{TimeslotTemplate}
 use Rattle.eb_record_spec.specs.declared.Slotframe.{Slotframe}
 use Rattle.eb_write_spec.specs.Frame.{groupDescriptor, shortDescriptor, longDescriptor, synchronizationBytes, templateSize, templateBytes, hoppingBytes, slotframeBytes, groupSize, groupBytes}
 use Rattle.eb_write_spec.proofs.LengthLaws.{length-le, length-synchronization, length-hopping, length-template}
-use Rattle.eb_write_spec.proofs.RowLaws.{two, three, le-joined}
-
--- ---- the ASN in five bytes
-low-asn : (asn : ℕ) → leBytes 5 (asn % 1099511627776) ≡ leBytes 5 asn
-unfolding leBytes
-low-asn asn =
-    let whole : asn % 1099511627776 + 1099511627776 * (asn / 1099511627776) ≡ asn = omega arith in
-    sym (append-nil (leBytes 5 (asn % 1099511627776))) ∙ (sym (le-joined 5 0 (asn % 1099511627776) (asn / 1099511627776) (omega arith)) ∙ ap (leBytes 5) whole)
+use Rattle.eb_write_spec.proofs.RowLaws.{two, three, le-joined, le-low}
 
 pub synchronization-number : (y : Synchronization) → leBytes 8 (6662 + y .asn % 1099511627776 * 65536 + y .metric * 72057594037927936) ≡ synchronizationBytes y
 unfolding synchronizationBytes shortDescriptor
 synchronization-number y =
     let low : ℕ = y .asn % 1099511627776 in
     let one : 6662 + low * 65536 + y .metric * 72057594037927936 ≡ 6662 + 65536 * (low + 1099511627776 * y .metric) = omega arith in
-    rw (one, le-joined 2 6 6662 (low + 1099511627776 * y .metric) (omega arith), le-joined 5 1 low (y .metric) (omega arith), low-asn (y .asn))
+    rw (one, le-joined 2 6 6662 (low + 1099511627776 * y .metric) (omega arith), le-joined 5 1 low (y .metric) (omega arith), le-low 5 low (y .asn / 1099511627776) (y .asn) (omega arith) (omega arith))
 
 -- ---- the parts
 module _ (s : List ℕ) (at : ℕ) (t : List ℕ) (u : List ℕ) where

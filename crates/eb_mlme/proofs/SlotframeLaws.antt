@@ -1,5 +1,5 @@
 -- The laws of putting the slotframe and link element, in the shape in which the code meets them. Assumes nothing.
-use Prim.Native.Nat.{ℕ, _+_, _*_, _<_, _≤_, min}
+use Prim.Native.Nat.{ℕ, _+_, _*_, _/_, _%_, _<_, _≤_, min}
 use mathlib.Core.Path.{_≡_, refl, _∙_, ap}
 use mathlib.Core.List.{List, _++_, append-assoc}
 use native.Mathlib.Omega.{arith}
@@ -11,7 +11,7 @@ use Rattle.eb_record_spec.specs.declared.Slotframe.{Slotframe}
 use Rattle.eb_write_spec.specs.Frame.{shortDescriptor, linkBytes, linksBytes, slotframeBytes}
 use Rattle.eb_write_spec.proofs.LengthLaws.{length-le}
 use Rattle.eb_write_spec.proofs.RangeLaws.{length-mapped, clip-take}
-use Rattle.eb_write_spec.proofs.RowLaws.{two, run-start, run-next, run-end, le-joined}
+use Rattle.eb_write_spec.proofs.RowLaws.{two, run-start, run-next, run-end, le-joined, le-low}
 
 -- ---- a link, and the links
 pub link-number : (l : Link) → l .timeslot < 65536 → l .«channel_offset» < 65536 → leBytes 5 (l .timeslot + l .«channel_offset» * 65536 + l .options * 4294967296) ≡ linkBytes l
@@ -39,12 +39,14 @@ module _ (s : List ℕ) (at : ℕ) (ls : List Link) (n : ℕ) where
     links-end = run-end linkBytes linksBytes 5 refl (λ x xs. refl) length-link ls n s at whole i left
 
 -- ---- the element
-pub head-number : (handle size count : ℕ) → handle < 256 → size < 65536 → count < 256
-    → leBytes 7 (6917 + 5 * count + 65536 + handle * 16777216 + size * 4294967296 + count * 281474976710656) ≡ shortDescriptor 27 (5 + 5 * count) ++ (leBytes 1 1 ++ (leBytes 1 handle ++ (leBytes 2 size ++ leBytes 1 count)))
+pub head-number : (handle size count : ℕ) → handle < 256 → size < 65536
+    → leBytes 7 ((6917 + 5 * count) % 65536 + 65536 + handle * 16777216 + size * 4294967296 + count * 281474976710656) ≡ shortDescriptor 27 (5 + 5 * count) ++ (leBytes 1 1 ++ (leBytes 1 handle ++ (leBytes 2 size ++ leBytes 1 count)))
 unfolding shortDescriptor
-head-number handle size count h s c =
-    let one : 6917 + 5 * count + 65536 + handle * 16777216 + size * 4294967296 + count * 281474976710656 ≡ 5 + 5 * count + 6912 + 65536 * (1 + 256 * (handle + 256 * (size + 65536 * count))) = omega arith in
-    rw (one, le-joined 2 5 (5 + 5 * count + 6912) (1 + 256 * (handle + 256 * (size + 65536 * count))) (omega arith), le-joined 1 4 1 (handle + 256 * (size + 65536 * count)) (omega arith), le-joined 1 3 handle (size + 65536 * count) h, le-joined 2 1 size count s)
+head-number handle size count h s =
+    let low : ℕ = (6917 + 5 * count) % 65536 in
+    let one : low + 65536 + handle * 16777216 + size * 4294967296 + count * 281474976710656 ≡ low + 65536 * (1 + 256 * (handle + 256 * (size + 65536 * count))) = omega arith in
+    let head : leBytes 2 low ≡ leBytes 2 (5 + 5 * count + 6912) = le-low 2 low ((6917 + 5 * count) / 65536) (5 + 5 * count + 6912) (omega arith) (omega arith) in
+    rw (one, le-joined 2 5 low (1 + 256 * (handle + 256 * (size + 65536 * count))) (omega arith), head, le-joined 1 4 1 (handle + 256 * (size + 65536 * count)) (omega arith), le-joined 1 3 handle (size + 65536 * count) h, le-joined 2 1 size count s)
 
 pub slotframe-put : (s : List ℕ) (at : ℕ) (t u : List ℕ) (f : Slotframe) (head used : ℕ) → length (f .links) ≡ 16 → used ≡ min (f .count) 16
     → leBytes 7 head ≡ shortDescriptor 27 (5 + 5 * f .count) ++ (leBytes 1 1 ++ (leBytes 1 (f .handle) ++ (leBytes 2 (f .size) ++ leBytes 1 (f .count))))

@@ -38,7 +38,7 @@ fn put_group_start(
     at: usize,
     synchronization: Synchronization,
     template: TimeslotTemplate,
-    count: u8,
+    count: u16,
 )
     ensures { λ _. ⌜ now (buffer .exit) ≡ stored (now (buffer .entry)) at (groupDescriptor mlmeGroup (groupSize template count) ++ (synchronizationBytes synchronization ++ templateBytes template)) ⌝ }
 {

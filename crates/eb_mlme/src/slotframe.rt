@@ -11,6 +11,8 @@ use eb_record_spec::Link;
 const SLOTFRAME_DESCRIPTOR: u64 = 0x1B05;
 // The slotframe count 1, behind two bytes.
 const ONE_SLOTFRAME: u64 = 0x1_0000;
+// What is above a number of two bytes.
+const OVER_2_BYTES: u64 = 0x1_0000;
 // What a number is multiplied by to stand behind three bytes.
 const BYTE_3: u64 = 0x100_0000;
 // What a number is multiplied by to stand behind four bytes.
@@ -40,10 +42,10 @@ fn put_links(buffer: &mut [u8], at: usize, links: [Link; 16], used: usize)
 }
 
 // What stands before the links, as one number of seven bytes: descriptor, slotframe count, handle, size, number of links.
-fn head_number(handle: u8, size: u16, count: u8) -> u64
+fn head_number(handle: u8, size: u16, count: u16) -> u64
     ensures { λ r. ⌜ leBytes 7 r ≡ shortDescriptor slotframeId (5 + 5 * count) ++ (leBytes 1 1 ++ (leBytes 1 handle ++ (leBytes 2 size ++ leBytes 1 count))) ⌝ }
 {
-    (SLOTFRAME_DESCRIPTOR + 5 * count as u64)
+    (SLOTFRAME_DESCRIPTOR + 5 * count as u64) % OVER_2_BYTES
         + ONE_SLOTFRAME
         + handle as u64 * BYTE_3
         + size as u64 * BYTE_4

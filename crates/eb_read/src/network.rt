@@ -36,14 +36,7 @@ pub fn network_span(s: &[u8]) -> Span
     ensures answer { λ r. ⌜ r ≡ networkSpan (now (s .entry)) ⌝ }
     ensures inside { λ _. ⌜ NetworkLiesInside ⌝ }
 {
-    let found = eb_examine::examine(s);
-    if found.number != refusal::DONE {
-        return Span {
-            offset: 0,
-            length: 0,
-        };
-    }
-    let walk = found.walk;
+    let walk = eb_examine::accepted_walk(s);
     let at = walk.joining;
     if at == 0 {
         return Span {

@@ -1,16 +1,16 @@
 -- The laws of the network ID, in the shape in which the code meets them. Assumes nothing.
 use Prim.Native.Nat.{ℕ, _+_, _-_, _*_, _/_, _%_, _<_, _≤_}
-use mathlib.Core.Path.{_≡_, refl}
+use mathlib.Core.Path.{_≡_, refl, sym, _∙_}
 use mathlib.Core.List.{List}
 use native.Mathlib.Omega.{arith}
 use lib.ListN.{length, take, drop}
 use Rattle.octets_spec.specs.Number.{beAt}
 use Rattle.octets_spec.proofs.ChoiceLaws.{if-lt, if-ge, if-eq, if-ne, choices}
 use Rattle.eb_read_spec.specs.Decode.{networkOffset}
-use Rattle.eb_read_spec.specs.Read.{examined}
+use Rattle.ie_walk_spec.specs.declared.Walk.{Walk}
+use Rattle.eb_read_spec.specs.Read.{walkStart, blankWalk, examined, acceptedWalk}
 use Rattle.eb_read_spec.specs.Inside.{JoiningInside}
 use Rattle.eb_read_spec.specs.Network.{noSpan, spanFrom, networkSpan, networkPart, NetworkLiesInside}
-use Rattle.eb_read_spec.specs.declared.Examination.{Examination}
 use Rattle.eb_read_spec.specs.declared.Span.{Span}
 use Rattle.eb_read_spec.proofs.DecodeLaws.{network-from}
 use Rattle.eb_read_spec.proofs.Each.{each-lt, each-eq}
@@ -40,25 +40,28 @@ pub span-none : (from to : ℕ) → to ≤ from → noSpan ≡ spanFrom from to
 unfolding spanFrom
 span-none from to h = if-ge _ _ _ _ h refl
 
-module _ (s : List ℕ) (x : Examination) (e : x ≡ examined s) where
-  pub network-refused : (x .number ≡ 0 → ⊥) → noSpan ≡ networkSpan s
+module _ (s : List ℕ) (w : Walk) (e : w ≡ acceptedWalk s) where
+  of-accepted : examined s .number ≡ 0 → w ≡ examined s .walk
+  unfolding acceptedWalk
+  of-accepted good = e ∙ sym (if-eq _ _ _ _ good refl)
+
+  pub network-absent : w .joining ≡ 0 → noSpan ≡ networkSpan s
   unfolding networkSpan
-  network-refused bad = rw (← e) (if-ne _ _ _ _ bad refl)
+  network-absent none = each-eq (λ (r : Span). noSpan ≡ r) _ _ _ _ (λ good. if-eq _ _ _ _ (rw (of-accepted good) at none) refl) (λ bad. refl)
 
-  module _ (good : x .number ≡ 0) where
-    pub network-absent : x .walk .joining ≡ 0 → noSpan ≡ networkSpan s
+  module _ (some : w .joining ≡ 0 → ⊥) where
+    accepted : examined s .number ≡ 0
+    unfolding acceptedWalk blankWalk walkStart
+    accepted = each-eq (λ (x : Walk). (x .joining ≡ 0 → ⊥) → examined s .number ≡ 0) _ _ _ _ (λ good there. good) (λ bad there. absurd (there refl)) (rw e at some)
+
+    pub network-there : (skip : ℕ) (r : Span) → skip ≡ networkOffset s (w .joining) → r ≡ spanFrom (w .joining + skip) (w .joiningend) → r ≡ networkSpan s
     unfolding networkSpan
-    network-absent none = rw (← e) (if-eq _ _ _ _ good (if-eq _ _ _ _ none refl))
+    network-there skip r k f = rw (← of-accepted accepted) (if-eq _ _ _ _ accepted (if-ne _ _ _ _ some (rw k at f)))
 
-    module _ (some : x .walk .joining ≡ 0 → ⊥) where
-      pub network-there : (skip : ℕ) (r : Span) → skip ≡ networkOffset s (x .walk .joining) → r ≡ spanFrom (x .walk .joining + skip) (x .walk .joiningend) → r ≡ networkSpan s
-      unfolding networkSpan
-      network-there skip r k f = rw (← e) (if-eq _ _ _ _ good (if-ne _ _ _ _ some (rw k at f)))
-
-      pub joining-low : x .walk .joining ≤ length s
-      joining-low =
-          let inside : JoiningInside s (x .walk .joining) (x .walk .joiningend) = inside-facts s (x .walk) (rw e (accepted-lies-inside s (rw e at good))) .joining some in
-          omega (arith, inside .least, inside .inside)
+    pub joining-low : w .joining ≤ length s
+    joining-low =
+        let inside : JoiningInside s (w .joining) (w .joiningend) = inside-facts s w (rw (of-accepted accepted) (accepted-lies-inside s accepted)) .joining some in
+        omega (arith, inside .least, inside .inside)
 
 -- ---- the part
 module _ (s : List ℕ) (r : Span) (e : r ≡ networkSpan s) where
@@ -69,4 +72,4 @@ module _ (s : List ℕ) (r : Span) (e : r ≡ networkSpan s) where
   unfolding networkPart
   part-is = let size : r .offset + r .length - r .offset ≡ r .length = omega arith in rw (size, e)
 
-pub ruleset networks = (choices, offset-is, span-some, span-none, network-refused, network-absent, network-there, part-is)
+pub ruleset networks = (choices, offset-is, span-some, span-none, network-absent, network-there, part-is)

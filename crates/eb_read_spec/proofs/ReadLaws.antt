@@ -15,7 +15,7 @@ use Rattle.ie_walk_spec.specs.Walk.{headerList, payloadList}
 use Rattle.ie_walk_spec.specs.declared.Walk.{Walk}
 use Rattle.ie_walk_spec.specs.declared.HeaderListEnd.{HeaderListEnd}
 use Rattle.eb_read_spec.specs.Decode.{decoded}
-use Rattle.eb_read_spec.specs.Read.{walkStart, blankWalk, elementsWalk, missing, walkNumber, elementsOffset, examined, readFrame}
+use Rattle.eb_read_spec.specs.Read.{walkStart, blankWalk, elementsWalk, missing, walkNumber, elementsOffset, examined, acceptedWalk, readFrame}
 use Rattle.eb_read_spec.specs.declared.Examination.{Examination}
 use Rattle.eb_read_spec.proofs.Numbers.{at-most-8, elements-small}
 
@@ -42,9 +42,13 @@ module _ (s : List ℕ) (at end : ℕ) (head : HeaderListEnd) (start : Walk) (h 
     unfolding elementsWalk
     header-and-payload r some e = rw (← h) (if-eq _ _ _ _ good (if-ne _ _ _ _ some (rw b at e)))
 
-pub offsets-at : (s : List ℕ) (word : ℕ) (control : Control) (offsets : FieldOffsets) → word ≡ leAt 2 s 0 → control ≡ controlOf word → offsets ≡ offsetsOf control → offsets .elements ≡ elementsOffset s
-unfolding elementsOffset
-offsets-at s word control offsets e f g = rw (g, f, e)
+module _ (s : List ℕ) (word : ℕ) (control : Control) (offsets : FieldOffsets) (e : word ≡ leAt 2 s 0) (f : control ≡ controlOf word) (g : offsets ≡ offsetsOf control) where
+  pub offsets-at : offsets .elements ≡ elementsOffset s
+  unfolding elementsOffset
+  offsets-at = rw (g, f, e)
+
+  pub header-list-at : (end : ℕ) (head : HeaderListEnd) → head ≡ headerList s (offsets .elements) end → head ≡ headerList s (elementsOffset s) end
+  header-list-at end head h = rw offsets-at at h
 
 pub walk-small : (s : List ℕ) (at end : ℕ) (w : Walk) → w ≡ elementsWalk s at end → w .fault ≤ 8
 walk-small s at end w e = rw e (at-most-8 _ (elements-small s at end))
@@ -68,6 +72,20 @@ module _ (s : List ℕ) (fault : ℕ) (f : fault ≡ macHeaderFault s) where
   unfolding examined
   examined-walk w at n good p e g = rw (← f) (if-eq _ _ fault 0 good (rw (g, e, p)))
 
+  -- the walk of an accepted frame
+  pub unexamined : (w : Walk) → (fault ≡ 0 → ⊥) → w ≡ blankWalk → w ≡ acceptedWalk s
+  unfolding acceptedWalk
+  unexamined w bad e = rw (← examined-mac-header w bad e) (if-ne _ _ fault 0 bad e)
+
+  module _ (w : Walk) (n : ℕ) (good : fault ≡ 0) (e : w ≡ elementsWalk s (elementsOffset s) (length s)) (g : n ≡ walkNumber w) where
+    pub refused-walk : (b : Walk) → (n ≡ 0 → ⊥) → b ≡ blankWalk → b ≡ acceptedWalk s
+    unfolding acceptedWalk
+    refused-walk b bad h = rw (← examined-walk w _ n good refl e g) (if-ne _ _ n 0 bad h)
+
+    pub accepted-walk : n ≡ 0 → w ≡ acceptedWalk s
+    unfolding acceptedWalk
+    accepted-walk done = rw (← examined-walk w _ n good refl e g) (if-eq _ _ n 0 done refl)
+
 module _ (s : List ℕ) (x : Examination) (e : x ≡ examined s) where
   pub read-refused : (b : Beacon) → (x .number ≡ 0 → ⊥) → b ≡ blankBeacon → record { number = x .number; beacon = b } ≡ readFrame s
   unfolding readFrame
@@ -77,4 +95,4 @@ module _ (s : List ℕ) (x : Examination) (e : x ≡ examined s) where
   unfolding readFrame
   read-done b good f = rw (← e) (if-eq _ _ _ _ good (rw f))
 
-pub ruleset reading = (choices, heads, blanks, header-faulty, header-only, header-and-payload, offsets-at, walk-small, faulty, faultless, examined-mac-header, examined-walk, read-refused, read-done)
+pub ruleset reading = (choices, heads, blanks, header-faulty, header-only, header-and-payload, header-list-at, walk-small, faulty, faultless, examined-mac-header, examined-walk, unexamined, refused-walk, accepted-walk, read-refused, read-done)

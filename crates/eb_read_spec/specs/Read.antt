@@ -66,6 +66,10 @@ examined s =
     (record { number = walkNumber walk; walk = walk })
     (record { number = macHeaderFault s; walk = blankWalk })
 
+-- what the walk noted of an accepted frame, and nothing of one that is refused
+unfoldable pub acceptedWalk : List ℕ → Walk
+acceptedWalk s = ifEq (examined s .number) done (examined s .walk) blankWalk
+
 -- reading: the number, and the record or, on a refusal, the blank one
 unfoldable pub readFrame : List ℕ → ReadAnswer
 readFrame s =

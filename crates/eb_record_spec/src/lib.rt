@@ -40,12 +40,13 @@ pub struct Link {
     pub options: u16,
 }
 
-// The slotframe and link element: the slotframe's handle and size, and its links, of which the first `count` are used.
+// The slotframe and link element: the slotframe's handle and size, and its links, of which the first `count` are used. The count is one byte on
+// air and has 16 bits here, so that no padding stands before the links; over 16 it is outside the limits of writing.
 #[repr(C)]
 pub struct Slotframe {
     pub handle: u8,
     pub size: u16,
-    pub count: u8,
+    pub count: u16,
     pub links: [Link; 16],
 }
 

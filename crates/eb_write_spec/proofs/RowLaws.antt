@@ -1,7 +1,7 @@
 -- Parts put in a row are one part, and a list put entry by entry is the whole list. Assumes nothing.
 use Prim.Native.Nat.{ℕ, zero, suc, _+_, _*_, _/_, _%_, _^_, _<_, _≤_}
 use mathlib.Core.Path.{_≡_, refl, sym, _∙_, ap}
-use mathlib.Core.List.{List, [], _∷_, _++_}
+use mathlib.Core.List.{List, [], _∷_, _++_, append-nil}
 use native.Mathlib.Nat.{add-zero, mul-assoc, pow-succ'}
 use native.Mathlib.Omega.{arith}
 use lib.ListN.{length, getD, set, take, drop, length-take, drop-of-length-le}
@@ -59,3 +59,10 @@ le-joined (suc v) w a b small =
     let first : (a + 256 * (256 ^ v * b)) % 256 ≡ a % 256 = omega arith in
     let rest : (a + 256 * (256 ^ v * b)) / 256 ≡ a / 256 + 256 ^ v * b = omega arith in
     rw (width, whole, first, rest) (ap (λ (xs : List ℕ). a % 256 ∷ xs) (le-joined v w (a / 256) b (omega arith)))
+
+-- a number put without what stands above its bytes
+pub le-low : (v a b n : ℕ) → a < 256 ^ v → a + 256 ^ v * b ≡ n → leBytes v a ≡ leBytes v n
+unfolding leBytes
+le-low v a b n small whole =
+    let width : v + 0 ≡ v = omega arith in
+    sym (append-nil (leBytes v a)) ∙ (sym (le-joined v 0 a b small) ∙ rw (width, whole))

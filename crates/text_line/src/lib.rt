@@ -53,7 +53,7 @@ fn put_synchronization(buffer: &mut [u8], asn: u64, metric: u8) -> usize
     put_field(buffer, next, b" metric ", metric as u64)
 }
 
-fn put_slotframe(buffer: &mut [u8], at: usize, size: u16, links: u8) -> usize
+fn put_slotframe(buffer: &mut [u8], at: usize, size: u16, links: u16) -> usize
     requires { ⌜ at + 54 ≤ length (now buffer) ⌝ }
     ensures { λ r. ⌜ PartPut (now (buffer .entry)) at (slotframeText size links) (now (buffer .exit)) r × (r ≤ at + 54) ⌝ }
 {

@@ -164,7 +164,7 @@ fn record(
     asn: u64,
     metric: u8,
     size: u16,
-    links: u8,
+    links: u16,
     template: u8,
     timings: [u32; 12],
 ) {

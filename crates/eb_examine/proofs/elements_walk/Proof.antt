@@ -4,9 +4,6 @@ use borrow.Author.Needs.{needs}
 use Rattle.eb_examine.proofs.elements_walk.Statement.{statement}
 use Rattle.eb_examine.proofs.elements_walk.Tie as tie
 
-header-list-requires : tie.Need-header-list-requires
-header-list-requires c κs = search needs
-
 walk-start-requires : tie.Need-walk-start-requires
 walk-start-requires c κs = search needs
 
@@ -24,5 +21,4 @@ returns-3 c = search (needs, reading)
 
 pub elements-walk-spec : {M : Type 1} → statement M
 elements-walk-spec =
-    tie.close
-    (tie.spec header-list-requires walk-start-requires returns returns-2 payload-list-requires returns-3)
+    tie.close (tie.spec walk-start-requires returns returns-2 payload-list-requires returns-3)

@@ -14,8 +14,8 @@ blank-walk-requires c κs = search needs
 returns : tie.Need-returns
 returns c = (search (needs, reading), accepted-lies-inside)
 
-elements-offset-requires : tie.Need-elements-offset-requires
-elements-offset-requires c κs = search needs
+header-list-requires : tie.Need-header-list-requires
+header-list-requires c κs = search needs
 
 elements-walk-requires : tie.Need-elements-walk-requires
 elements-walk-requires c κs = search needs
@@ -29,5 +29,5 @@ returns-2 c = (search (needs, reading), accepted-lies-inside)
 pub examine-spec : {M : Type 1} → statement M
 examine-spec =
     tie.close
-    (tie.spec mac-header-fault-requires blank-walk-requires returns elements-offset-requires elements-walk-requires
+    (tie.spec mac-header-fault-requires blank-walk-requires returns header-list-requires elements-walk-requires
     walk-number-requires returns-2)

@@ -19,6 +19,9 @@ cast-put-network c = search needs
 add-put-network : tie.Need-add-put-network
 add-put-network c = search needs
 
+cast-at-most-16 : tie.Need-cast-at-most-16
+cast-at-most-16 c = search needs
+
 at-most-16-requires : tie.Need-at-most-16-requires
 at-most-16-requires c κs = search needs
 
@@ -34,5 +37,5 @@ returns-2 c = search (needs, joinings)
 pub put-joining-rest-spec : {M : Type 1} → statement M
 put-joining-rest-spec =
     tie.close
-    (tie.spec returns address-width-requires put-be-requires cast-put-network add-put-network at-most-16-requires
-    put-network-requires same-length returns-2)
+    (tie.spec returns address-width-requires put-be-requires cast-put-network add-put-network cast-at-most-16
+    at-most-16-requires put-network-requires same-length returns-2)

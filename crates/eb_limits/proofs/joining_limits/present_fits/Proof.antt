@@ -4,6 +4,9 @@ use borrow.Author.Needs.{needs}
 use Rattle.eb_limits.proofs.joining_limits.present_fits.Statement.{statement}
 use Rattle.eb_limits.proofs.joining_limits.present_fits.Tie as tie
 
+cast-at-most-16 : tie.Need-cast-at-most-16
+cast-at-most-16 c = search needs
+
 at-most-16-requires : tie.Need-at-most-16-requires
 at-most-16-requires c κs = search needs
 
@@ -22,4 +25,5 @@ returns c = search (needs, joinings)
 pub present-fits-spec : {M : Type 1} → statement M
 present-fits-spec =
     tie.close
-    (tie.spec at-most-16-requires address-fits-requires network-below-requires network-unused-requires returns)
+    (tie.spec cast-at-most-16 at-most-16-requires address-fits-requires network-below-requires
+    network-unused-requires returns)

@@ -1,0 +1,38 @@
+-- `eb_examine::accepted_walk` meets its contract. Assumes nothing.
+use Rattle.eb_read_spec.proofs.ReadLaws.{reading}
+use borrow.Author.Needs.{needs}
+use Rattle.eb_examine.proofs.accepted_walk.Statement.{statement}
+use Rattle.eb_examine.proofs.accepted_walk.Tie as tie
+
+mac-header-fault-requires : tie.Need-mac-header-fault-requires
+mac-header-fault-requires c κs = search needs
+
+blank-walk-requires : tie.Need-blank-walk-requires
+blank-walk-requires c κs = search needs
+
+returns : tie.Need-returns
+returns c = search (needs, reading)
+
+header-list-requires : tie.Need-header-list-requires
+header-list-requires c κs = search needs
+
+elements-walk-requires : tie.Need-elements-walk-requires
+elements-walk-requires c κs = search needs
+
+walk-number-requires : tie.Need-walk-number-requires
+walk-number-requires c κs = search (needs, reading)
+
+blank-walk-requires-2 : tie.Need-blank-walk-requires-2
+blank-walk-requires-2 c κs = search needs
+
+returns-2 : tie.Need-returns-2
+returns-2 c = search (needs, reading)
+
+returns-3 : tie.Need-returns-3
+returns-3 c = search (needs, reading)
+
+pub accepted-walk-spec : {M : Type 1} → statement M
+accepted-walk-spec =
+    tie.close
+    (tie.spec mac-header-fault-requires blank-walk-requires returns header-list-requires elements-walk-requires
+    walk-number-requires blank-walk-requires-2 returns-2 returns-3)
