@@ -1,6 +1,5 @@
 -- `eb_limits::slotframe_limits::link_unused` meets its contract. Assumes nothing.
 use Rattle.eb_limits.proofs.LimitLaws.{link-blank}
-use borrow.Author.Needs.{needs}
 use Rattle.eb_limits.proofs.slotframe_limits.link_unused.Statement.{statement}
 use Rattle.eb_limits.proofs.slotframe_limits.link_unused.Tie as tie
 
