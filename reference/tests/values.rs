@@ -399,19 +399,39 @@ fn logs_are_counted() {
     assert!(replay.same(&refused), "{replay:?}");
 }
 
-/// Slot 10 of a slotframe of 7 is timeslot 3; with the channel offset 5 the channel is entry 15 of the sequence.
+/// Slot 10 of a slotframe of 7 is timeslot 3; with the channel offset 5 the channel is entry 15 of the sequence. The minimal
+/// schedule of RFC 8180 has a shared cell in slot 0, to transmit and receive.
 #[test]
 fn slots_are_decided() {
+    const LAST: u64 = (1 << 40) - 1;
     let schedule = &links(&[(4, 0, 3), (3, 9, 0xFC), (3, 5, 2), (3, 6, 1)])[..4];
+    let mixed = &links(&[(5, 1, 4), (3, 2, 2), (3, 65535, 1), (3, 4, 3)])[..4];
+    let minimal = &[Link { timeslot: 0, channel_offset: 0, options: 15 }; 17];
     let slot = |number: u8, action: u8, channel: u8, index: u8| Slot { number, action, channel, index };
+    let (asleep, refused) = (slot(DONE, SLEEP, 0, 0), slot(OUT_OF_LIMITS, SLEEP, 0, 0));
     let cases = [
-        ("none waits", 7, 0, 10, false, slot(DONE, LISTEN, 21, 2)),
-        ("a frame waits", 7, 0, 10, true, slot(DONE, TRANSMIT, 16, 3)),
-        ("another slot", 7, 0, 11, true, slot(DONE, TRANSMIT, 13, 0)),
-        ("no link's slot", 7, 0, 12, true, slot(DONE, SLEEP, 0, 0)),
-        ("hopping sequence 7 in a slotframe of 0", 0, 7, 10, true, slot(OUT_OF_LIMITS, SLEEP, 0, 0)),
+        ("none waits", schedule, 7, 0, 10, false, slot(DONE, LISTEN, 21, 2)),
+        ("a frame waits", schedule, 7, 0, 10, true, slot(DONE, TRANSMIT, 16, 3)),
+        ("another slot", schedule, 7, 0, 11, true, slot(DONE, TRANSMIT, 13, 0)),
+        ("no link's slot", schedule, 7, 0, 12, true, asleep),
+        ("hopping sequence 7 in a slotframe of 0", schedule, 0, 7, 10, true, refused),
+        ("minimal, another slot", &minimal[..1], 11, 0, 256, true, asleep),
+        ("minimal, a frame waits", &minimal[..1], 11, 0, 264, true, slot(DONE, TRANSMIT, 19, 0)),
+        ("minimal, none waits", &minimal[..1], 11, 0, 264, false, slot(DONE, LISTEN, 19, 0)),
+        ("minimal, the last ASN", &minimal[..1], 101, 0, LAST, false, asleep),
+        ("mixed, a frame waits", mixed, 7, 0, 24, true, slot(DONE, TRANSMIT, 22, 2)),
+        ("mixed, none waits", mixed, 7, 0, 24, false, slot(DONE, LISTEN, 12, 1)),
+        ("mixed, none may transmit", &mixed[..2], 7, 0, 24, true, slot(DONE, LISTEN, 12, 1)),
+        ("mixed, neither may be done", mixed, 7, 0, 26, true, asleep),
+        ("a slotframe of 0", &minimal[..1], 0, 0, 264, true, refused),
+        ("no links", &minimal[..0], 11, 0, 264, true, refused),
+        ("16 links", &minimal[..16], 11, 0, 264, true, slot(DONE, TRANSMIT, 19, 0)),
+        ("17 links", minimal, 11, 0, 264, true, refused),
+        ("timeslot 5 in a slotframe of 5", mixed, 5, 0, 24, true, refused),
+        ("hopping sequence 1", &minimal[..1], 11, 1, 264, true, refused),
+        ("an ASN of six bytes", &minimal[..1], 11, 0, LAST + 1, true, refused),
     ];
-    for (name, size, sequence_id, asn, waits, expected) in cases {
+    for (name, schedule, size, sequence_id, asn, waits, expected) in cases {
         assert_eq!(library::decide(schedule, size, sequence_id, asn, waits), expected, "{name}");
     }
 }

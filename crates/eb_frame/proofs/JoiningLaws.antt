@@ -47,14 +47,6 @@ pub word-is : (j : JoiningInformation) (r p : ℕ) → r ≡ flag (j .router) �
 unfolding joiningWord
 word-is j r p e f = rw (e, f)
 
-pub width-there : (proxied : Bool) → proxied ≡ true → 8 ≡ 8 * flag proxied
-unfolding ifOn
-width-there proxied on = rw on
-
-pub width-none : (proxied : Bool) → proxied ≡ false → 0 ≡ 8 * flag proxied
-unfolding ifOn
-width-none proxied off = rw off
-
 -- ---- the parts
 address-bytes : (proxied : Bool) (n : ℕ) → beBytes (8 * flag proxied) n ≡ ifOn proxied (beBytes 8 n) []
 unfolding ifOn beBytes
@@ -76,10 +68,10 @@ module _ (s : List ℕ) (at : ℕ) (j : JoiningInformation) where
         rw one (le-joined 2 1 (size + 10240 + 32768) 2 (omega arith)) in
         rw (sym is, sym w) (two s at _ _ t 3 e (length-le 3 (size + 43008 + 131072)) u f ∙ ap (stored s at) (rw head (append-assoc (leBytes 2 (size + 10240 + 32768)) (leBytes 1 2) (beBytes 4 word))))
 
-    pub rest-put : (width used : ℕ) → width ≡ 8 * flag (j .proxied) → length (j .network) ≡ 16 → used ≡ min (j .length) 16 → t ≡ stored s at (beBytes width (j .address)) → u ≡ stored t (at + width) (take used (j .network))
+    pub rest-put : (p used : ℕ) → p ≡ flag (j .proxied) → length (j .network) ≡ 16 → used ≡ min (j .length) 16 → t ≡ stored s at (beBytes (8 * p) (j .address)) → u ≡ stored t (at + 8 * p) (take used (j .network))
         → u ≡ stored s at (ifOn (j .proxied) (beBytes 8 (j .address)) [] ++ take (j .length) (j .network))
-    rest-put width used w long is e f =
-        two s at _ _ t width e (length-be width (j .address)) u (rw (is, clip-take (j .network) (j .length) 16 long) at f)
+    rest-put p used w long is e f =
+        two s at _ _ t (8 * p) e (length-be (8 * p) (j .address)) u (rw (is, clip-take (j .network) (j .length) 16 long) at f)
         ∙ ap (stored s at) (rw (w, address-bytes (j .proxied) (j .address)))
 
     pub joining-put : j .present ≡ true → t ≡ stored s at (groupDescriptor 5 (joiningSize j) ++ (leBytes 1 2 ++ beBytes 4 (joiningWord j))) → u ≡ stored t (at + 7) (ifOn (j .proxied) (beBytes 8 (j .address)) [] ++ take (j .length) (j .network)) → u ≡ stored s at (joiningBytes j)
@@ -90,4 +82,4 @@ module _ (s : List ℕ) (at : ℕ) (j : JoiningInformation) where
   unfolding joiningBytes
   joining-none off = nothing s at ∙ ap (stored s at) (if-off _ _ (j .present) off refl)
 
-pub ruleset joinings = (choices, stored-out, bytes-start, bytes-next, bytes-end, word-is, width-there, width-none, joining-starts, rest-put, joining-put, joining-none)
+pub ruleset joinings = (choices, stored-out, bytes-start, bytes-next, bytes-end, word-is, joining-starts, rest-put, joining-put, joining-none)

@@ -1,7 +1,7 @@
 // Joining information of a frame, put into a lent buffer from an offset on; past the end of the buffer nothing is stored.
 ghost use mathlib.Core.Path.{_≡_};
 ghost use mathlib.Core.List.{[], _++_};
-ghost use Prim.Native.Nat.{_*_, _≤_, _<_};
+ghost use Prim.Native.Nat.{_+_, _≤_, _<_, _^_};
 ghost use lib.ListN.{take};
 ghost use Rattle.octets_spec.specs.Choice.{ifOn};
 ghost use Rattle.octets_spec.specs.Number.{leBytes, beBytes, stored};
@@ -50,12 +50,9 @@ fn wide(value: u8) -> u64
 
 // The first bytes of a network ID.
 fn put_network(buffer: &mut [u8], at: usize, network: [u8; 16], used: usize)
-    requires { ⌜ used ≤ 16 ⌝ }
+    requires { ⌜ (used ≤ 16) × (at < 2 ^ 63 + 1024) ⌝ }
     ensures { λ _. ⌜ now (buffer .exit) ≡ stored (now (buffer .entry)) at (take used network) ⌝ }
 {
-    if buffer.len() <= at {
-        return;
-    }
     let mut i = 0;
     while i < used {
         octets::put::put_le(buffer, at + i, 1, wide(network[i]));
@@ -63,25 +60,13 @@ fn put_network(buffer: &mut [u8], at: usize, network: [u8; 16], used: usize)
     }
 }
 
-// The bytes of the address: eight if P is set, else none.
-fn address_width(proxied: bool) -> u8
-    ensures { λ r. ⌜ (r ≡ 8 * flag proxied) × (r ≤ 8) ⌝ }
-{
-    if proxied {
-        return 8;
-    }
-    0
-}
-
 // The rest of joining information: the address if P is set, the network ID.
 fn put_joining_rest(buffer: &mut [u8], at: usize, joining: JoiningInformation)
+    requires { ⌜ at < 2 ^ 63 + 512 ⌝ }
     ensures { λ _. ⌜ now (buffer .exit) ≡ stored (now (buffer .entry)) at (ifOn (joining .proxied) (beBytes 8 (joining .address)) [] ++ take (joining .length) (joining .network)) ⌝ }
 {
-    if buffer.len() <= at {
-        return;
-    }
     let network = joining.network;
-    let width = address_width(joining.proxied);
+    let width = 8 * flag_of(joining.proxied) as u8;
     octets::put::put_be(buffer, at, width, joining.address);
     put_network(
         buffer,
@@ -93,11 +78,9 @@ fn put_joining_rest(buffer: &mut [u8], at: usize, joining: JoiningInformation)
 
 // The start of joining information: descriptor and subtype as one number of three bytes, then the flags and priorities.
 fn put_joining_start(buffer: &mut [u8], at: usize, joining: JoiningInformation)
+    requires { ⌜ at < 2 ^ 63 + 512 ⌝ }
     ensures { λ _. ⌜ now (buffer .exit) ≡ stored (now (buffer .entry)) at (groupDescriptor ietfGroup (joiningSize joining) ++ (leBytes 1 joiningSubtype ++ beBytes 4 (joiningWord joining))) ⌝ }
 {
-    if buffer.len() <= at {
-        return;
-    }
     octets::put::put_le(
         buffer,
         at,

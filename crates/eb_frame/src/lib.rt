@@ -25,11 +25,9 @@ fn before_joining(beacon: Beacon) -> usize
 
 // The elements: the header list's terminator, the MLME group, joining information.
 fn put_elements(buffer: &mut [u8], at: usize, beacon: Beacon)
+    requires { ⌜ at ≤ 15 ⌝ }
     ensures { λ _. ⌜ now (buffer .exit) ≡ stored (now (buffer .entry)) at (headerDescriptor headerTermination1 0 ++ (beaconGroup beacon ++ joiningBytes (beacon .joining))) ⌝ }
 {
-    if buffer.len() <= at {
-        return;
-    }
     let size = before_joining(beacon);
     octets::put::put_le(buffer, at, 2, HEADER_TERMINATION_1);
     eb_mlme::put_group(

@@ -30,12 +30,8 @@ fn suppressed_bit(sequence: SequenceNumber) -> u64
     ensures { λ r. ⌜ (r ≡ suppressedBit sequence) × (r ≤ 1) ⌝ }
 {
     match sequence {
-        SequenceNumber::Absent => {
-            return 1;
-        }
-        SequenceNumber::Number(_) => {
-            return 0;
-        }
+        SequenceNumber::Absent => 1,
+        SequenceNumber::Number(_) => 0,
     }
 }
 
@@ -43,12 +39,8 @@ fn source_mode(source: Address) -> u64
     ensures { λ r. ⌜ (r ≡ sourceMode source) × (r ≤ 3) ⌝ }
 {
     match source {
-        Address::Short(_) => {
-            return SHORT;
-        }
-        Address::Extended(_) => {
-            return EXTENDED;
-        }
+        Address::Short(_) => SHORT,
+        Address::Extended(_) => EXTENDED,
     }
 }
 
@@ -68,12 +60,8 @@ fn sequence_number(sequence: SequenceNumber) -> u64
     ensures { λ r. ⌜ (leBytes (length (sequenceBytes sequence)) r ≡ sequenceBytes sequence) × (r < 256) ⌝ }
 {
     match sequence {
-        SequenceNumber::Absent => {
-            return 0;
-        }
-        SequenceNumber::Number(number) => {
-            return number as u64;
-        }
+        SequenceNumber::Absent => 0,
+        SequenceNumber::Number(number) => number as u64,
     }
 }
 
@@ -82,12 +70,8 @@ fn source_number(source: Address) -> u64
     ensures { λ r. ⌜ leBytes (length (sourceBytes source)) r ≡ sourceBytes source ⌝ }
 {
     match source {
-        Address::Short(number) => {
-            return number as u64;
-        }
-        Address::Extended(number) => {
-            return number;
-        }
+        Address::Short(number) => number as u64,
+        Address::Extended(number) => number,
     }
 }
 

@@ -1,6 +1,2 @@
 pub mod SizeLaws
-pub mod GroupSizeLaws
-pub mod LengthLaws
-pub mod SlotframeLaws
-pub mod JoiningLaws
 pub mod LimitLaws

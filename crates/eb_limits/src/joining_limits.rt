@@ -1,8 +1,8 @@
 // The limits of joining information that can be written (eb_write_spec/specs/Limits.antt).
 ghost use mathlib.Core.Path.{_≡_};
 ghost use Prim.Native.Nat.{_≤_};
-ghost use lib.ListN.{drop};
-ghost use Rattle.eb_write_spec.specs.Limits.{allBelow, addressFits, presentFits, absentFits, joiningFits};
+ghost use lib.ListN.{length};
+ghost use Rattle.eb_write_spec.specs.Limits.{addressFits, presentFits, absentFits, joiningFits};
 ghost use Rattle.eb_write_spec.specs.Range.{allFrom, below};
 use eb_record_spec::JoiningInformation;
 
@@ -24,7 +24,7 @@ fn address_fits(joining: JoiningInformation) -> bool
 // Whether the bytes of a network ID from an index to another are below a bound.
 fn network_below(network: [u8; 16], from: usize, to: usize, bound: u16) -> bool
     requires { ⌜ (from ≤ to) × (to ≤ 16) ⌝ }
-    ensures { λ r. ⌜ r ≡ allFrom (below bound) network from to ⌝ }
+    ensures { λ r. ⌜ (r ≡ allFrom (below bound) network from to) × (length network ≡ 16) ⌝ }
 {
     let mut ok = true;
     let mut i = to;
@@ -33,14 +33,6 @@ fn network_below(network: [u8; 16], from: usize, to: usize, bound: u16) -> bool
         ok = ((network[i] as u16) < bound) & ok;
     }
     ok
-}
-
-// Whether the bytes of a network ID from an index on are unused.
-fn network_unused(network: [u8; 16], from: usize) -> bool
-    requires { ⌜ from ≤ 16 ⌝ }
-    ensures { λ r. ⌜ r ≡ allBelow 1 (drop from network) ⌝ }
-{
-    network_below(network, from, 16, 1)
 }
 
 fn present_fits(joining: JoiningInformation) -> bool
@@ -53,7 +45,7 @@ fn present_fits(joining: JoiningInformation) -> bool
             & (address_fits(joining)
                 & ((joining.length < 17)
                     & (network_below(network, 0, used, crate::OVER_1_BYTE)
-                        & network_unused(network, used)))))
+                        & network_below(network, used, 16, 1)))))
 }
 
 fn absent_fits(joining: JoiningInformation) -> bool
@@ -66,7 +58,7 @@ fn absent_fits(joining: JoiningInformation) -> bool
                 & ((joining.rank == 0)
                     & ((joining.pan == 0)
                         & ((joining.address == 0)
-                            & ((joining.length == 0) & network_unused(network, 0)))))))
+                            & ((joining.length == 0) & network_below(network, 0, 16, 1)))))))
 }
 
 // Whether joining information is within the limits of writing.

@@ -1,8 +1,7 @@
 // Whether a record is within the limits of writing (eb_write_spec/specs/Limits.antt), and how many bytes its frame has (`sizes`). A number
-// that fits by its type is not tested.
+// that fits by its type is not tested, but for what a variant holds.
 ghost use mathlib.Core.Path.{_≡_};
 ghost use Prim.Native.Nat.{_≤_};
-ghost use lib.Dec.{ltb};
 ghost use Rattle.eb_write_spec.specs.Limits.{sequenceFits, synchronizationFits, templateFits, fits};
 ghost use Rattle.eb_record_spec.specs.Form.{sourceFits};
 ghost use Rattle.eb_write_spec.specs.Range.{allFrom, below};
@@ -21,36 +20,15 @@ const OVER_2_BYTES: u32 = 0x1_0000;
 const OVER_3_BYTES: u32 = 0x100_0000;
 // The first number that five bytes do not hold.
 const OVER_5_BYTES: u64 = 0x100_0000_0000;
-
-// What a variant holds fits by its type.
-fn in_one_byte(number: u8) -> bool
-    ensures { λ r. ⌜ r ≡ ltb number 256 ⌝ }
-{
-    (number as u16) < OVER_1_BYTE
-}
-
-fn in_two_bytes(number: u16) -> bool
-    ensures { λ r. ⌜ r ≡ ltb number 65536 ⌝ }
-{
-    (number as u32) < OVER_2_BYTES
-}
-
-fn in_eight_bytes(number: u64) -> bool
-    ensures { λ r. ⌜ r ≡ ltb number 18446744073709551616 ⌝ }
-{
-    true
-}
+// The last number that eight bytes hold.
+const LAST_8_BYTES: u64 = 0xFFFF_FFFF_FFFF_FFFF;
 
 fn sequence_fits(sequence: SequenceNumber) -> bool
     ensures { λ r. ⌜ r ≡ sequenceFits sequence ⌝ }
 {
     match sequence {
-        SequenceNumber::Absent => {
-            return true;
-        }
-        SequenceNumber::Number(number) => {
-            return in_one_byte(number);
-        }
+        SequenceNumber::Absent => true,
+        SequenceNumber::Number(number) => (number as u16) < OVER_1_BYTE,
     }
 }
 
@@ -58,12 +36,8 @@ fn source_fits(source: Address) -> bool
     ensures { λ r. ⌜ r ≡ sourceFits source ⌝ }
 {
     match source {
-        Address::Short(number) => {
-            return in_two_bytes(number);
-        }
-        Address::Extended(number) => {
-            return in_eight_bytes(number);
-        }
+        Address::Short(number) => (number as u32) < OVER_2_BYTES,
+        Address::Extended(number) => number <= LAST_8_BYTES,
     }
 }
 

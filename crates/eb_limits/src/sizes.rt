@@ -21,12 +21,8 @@ pub fn sequence_size(sequence: SequenceNumber) -> usize
     ensures { λ r. ⌜ (r ≡ length (sequenceBytes sequence)) × (r ≤ 1) ⌝ }
 {
     match sequence {
-        SequenceNumber::Absent => {
-            return 0;
-        }
-        SequenceNumber::Number(_) => {
-            return 1;
-        }
+        SequenceNumber::Absent => 0,
+        SequenceNumber::Number(_) => 1,
     }
 }
 
@@ -35,12 +31,8 @@ pub fn source_size(source: Address) -> usize
     ensures { λ r. ⌜ (r ≡ length (sourceBytes source)) × (r ≤ 8) ⌝ }
 {
     match source {
-        Address::Short(_) => {
-            return SHORT_SIZE;
-        }
-        Address::Extended(_) => {
-            return EXTENDED_SIZE;
-        }
+        Address::Short(_) => SHORT_SIZE,
+        Address::Extended(_) => EXTENDED_SIZE,
     }
 }
 

@@ -36,7 +36,7 @@ module _ (s : List ℕ) (at : ℕ) (t u : List ℕ) (ns : List ℕ) (twelve : le
   unfolding numbersIn
   last-put w is e f = rw (sym is, last-two ns twelve, append-nil (leBytes w (getD ns 11 0))) (two s at _ _ t w e (length-le w (getD ns 10 0)) u f)
 
-  pub timings-put : t ≡ stored s at (numbersIn 2 (take 10 ns)) → u ≡ stored t (at + 20) (numbersIn (lastWidth (drop 10 ns)) (drop 10 ns)) → u ≡ stored s at (timingsBytes ns)
+  timings-put : t ≡ stored s at (numbersIn 2 (take 10 ns)) → u ≡ stored t (at + 20) (numbersIn (lastWidth (drop 10 ns)) (drop 10 ns)) → u ≡ stored s at (timingsBytes ns)
   unfolding timingsBytes
   timings-put e f = two s at _ _ t 20 e (omega (arith, length-numbers 2 (take 10 ns), length-take 10 ns)) u f
 
@@ -56,12 +56,14 @@ module _ (s : List ℕ) (at : ℕ) (t : List ℕ) (m : TimeslotTemplate) (size :
   unfolding templateBytes
   behind xs is = append-assoc (shortDescriptor 28 (templateSize m)) (leBytes 1 (m .id)) xs ∙ ap (λ (l : List ℕ). shortDescriptor 28 (templateSize m) ++ (leBytes 1 (m .id) ++ l)) is
 
-  pub template-timed : (u : List ℕ) → m .timed ≡ true → u ≡ stored t (at + 3) (timingsBytes (m .timings)) → u ≡ stored s at (templateBytes m)
-  template-timed u on f =
+  pub template-timed : (u v : List ℕ) → length (m .timings) ≡ 12 → m .timed ≡ true → u ≡ stored t (at + 3) (numbersIn 2 (take 10 (m .timings))) → v ≡ stored u (at + 23) (numbersIn (lastWidth (drop 10 (m .timings))) (drop 10 (m .timings)))
+      → v ≡ stored s at (templateBytes m)
+  template-timed u v twelve on f g =
       let long : length (shortDescriptor 28 (templateSize m) ++ leBytes 1 (m .id)) ≡ 3 = rw (sym head) (length-le 3 (size + 7168 + m .id * 65536)) in
-      two s at _ _ t 3 start long u f ∙ ap (stored s at) (behind _ (if-on _ _ (m .timed) on refl))
+      let from : at + 3 + 20 ≡ at + 23 = omega arith in
+      two s at _ _ t 3 start long v (timings-put t (at + 3) u v (m .timings) twelve f (rw from g)) ∙ ap (stored s at) (behind _ (if-on _ _ (m .timed) on refl))
 
   pub template-bare : m .timed ≡ false → t ≡ stored s at (templateBytes m)
   template-bare off = start ∙ ap (stored s at) (sym (append-nil _) ∙ behind [] (if-off _ _ (m .timed) off refl))
 
-pub ruleset templates = (stored-out, numbers-start, numbers-next, numbers-end, last-put, timings-put, template-timed, template-bare)
+pub ruleset templates = (stored-out, numbers-start, numbers-next, numbers-end, last-put, template-timed, template-bare)

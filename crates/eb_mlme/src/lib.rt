@@ -1,6 +1,7 @@
 // The MLME group of a frame, put into a lent buffer from an offset on; past the end of the buffer nothing is stored.
 ghost use mathlib.Core.Path.{_≡_};
 ghost use mathlib.Core.List.{_++_};
+ghost use Prim.Native.Nat.{_+_, _<_, _^_};
 ghost use Rattle.octets_spec.specs.Number.{leBytes, stored};
 ghost use Rattle.eb_write_spec.specs.Frame.{mlmeGroup, groupDescriptor, synchronizationBytes, templateBytes, hoppingBytes, slotframeBytes, groupSize, groupBytes};
 use eb_record_spec::Slotframe;
@@ -40,11 +41,9 @@ fn put_group_start(
     template: TimeslotTemplate,
     count: u16,
 )
+    requires { ⌜ at < 2 ^ 63 + 1024 ⌝ }
     ensures { λ _. ⌜ now (buffer .exit) ≡ stored (now (buffer .entry)) at (groupDescriptor mlmeGroup (groupSize template count) ++ (synchronizationBytes synchronization ++ templateBytes template)) ⌝ }
 {
-    if buffer.len() <= at {
-        return;
-    }
     octets::put::put_le(
         buffer,
         at,
@@ -57,11 +56,9 @@ fn put_group_start(
 
 // The rest of the MLME group: hopping, whose descriptor and sequence ID are one number of three bytes, and the slotframe.
 fn put_group_rest(buffer: &mut [u8], at: usize, hopping: u8, slotframe: Slotframe)
+    requires { ⌜ at < 2 ^ 63 + 1024 ⌝ }
     ensures { λ _. ⌜ now (buffer .exit) ≡ stored (now (buffer .entry)) at (hoppingBytes hopping ++ slotframeBytes slotframe) ⌝ }
 {
-    if buffer.len() <= at {
-        return;
-    }
     octets::put::put_le(buffer, at, 3, HOPPING_DESCRIPTOR + hopping as u64 * BYTE_2);
     crate::slotframe::put_slotframe(buffer, at + 3, slotframe);
 }

@@ -1,7 +1,7 @@
 // The slotframe and link element of a frame, put into a lent buffer from an offset on; past the end of the buffer nothing is stored.
 ghost use mathlib.Core.Path.{_≡_};
 ghost use mathlib.Core.List.{_++_};
-ghost use Prim.Native.Nat.{_+_, _*_, _≤_};
+ghost use Prim.Native.Nat.{_+_, _*_, _≤_, _<_, _^_};
 ghost use lib.ListN.{take};
 ghost use Rattle.octets_spec.specs.Number.{leBytes, stored};
 ghost use Rattle.eb_write_spec.specs.Frame.{slotframeId, shortDescriptor, linkBytes, linksBytes, slotframeBytes};
@@ -28,12 +28,9 @@ fn link_number(link: Link) -> u64
 }
 
 fn put_links(buffer: &mut [u8], at: usize, links: [Link; 16], used: usize)
-    requires { ⌜ used ≤ 16 ⌝ }
+    requires { ⌜ (used ≤ 16) × (at < 2 ^ 63 + 1024) ⌝ }
     ensures { λ _. ⌜ now (buffer .exit) ≡ stored (now (buffer .entry)) at (linksBytes (take used links)) ⌝ }
 {
-    if buffer.len() <= at {
-        return;
-    }
     let mut i = 0;
     while i < used {
         octets::put::put_le(buffer, at + 5 * i, 5, link_number(links[i]));

@@ -8,7 +8,7 @@ use lib.Dec.{ltb}
 use lib.ListN.{length, getD, take, drop, length-map, length-take, drop-of-length-le}
 use lib.Seq.{take-all, drop-cons, getD-take}
 use Rattle.octets_spec.proofs.ChoiceLaws.{by-lt}
-use Rattle.eb_write_spec.specs.Limits.{allOf, allBelow}
+use Rattle.eb_write_spec.specs.Limits.{allOf}
 use Rattle.eb_write_spec.specs.Range.{allFrom, below}
 
 -- an array of structs that is a field has its length
@@ -66,8 +66,4 @@ module _ {A : Type 0} (test : A → Bool) (xs : List A) (size : ℕ) (long : len
     unfolding allFrom
     all-unused = rw (whole, is, clip-drop xs n size long)
 
-pub unused-from : (xs : List ℕ) (size bound from : ℕ) (u : Bool) → length xs ≡ size → u ≡ allFrom (below bound) xs from size → u ≡ allBelow bound (drop from xs)
-unfolding allBelow below
-unused-from xs size bound from u long e = e ∙ all-from (below bound) xs size long from
-
-pub ruleset ranges = (length-mapped, range-begins, range-turn, range-ends, below-turn, unused-from)
+pub ruleset ranges = (length-mapped, range-begins, range-turn, range-ends, below-turn)

@@ -1,6 +1,5 @@
 -- The header list: what stands at an offset of it (docs/RULES.md, Header elements). Assumes nothing.
 use Prim.Native.Nat.{ℕ, _+_, _-_, _/_, _%_, _<_, _≤_}
-use mathlib.Core.Path.{_≡_}
 use mathlib.Core.List.{List}
 use Rattle.octets_spec.specs.Choice.{ifLt, ifEq}
 use Rattle.octets_spec.specs.Number.{leAt}

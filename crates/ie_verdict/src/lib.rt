@@ -4,7 +4,7 @@ ghost use mathlib.Core.Path.{_≡_};
 ghost use Prim.Native.Nat.{_<_};
 ghost use Rattle.ie_verdict_spec.specs.Verdict.{onceOnly, syncFault, timeslotFault, hoppingFault, joiningFault, partFault};
 
-pub mod slotframe_fault;
+mod slotframe_fault;
 
 // The P flag in the first byte of joining information.
 const PROXIED: u64 = 0x40;
@@ -94,7 +94,7 @@ pub fn part_fault(s: &[u8], kind: u64, from: usize, to: usize, seen: ie_verdict_
         return hopping_fault(length, seen.hopping);
     }
     if kind == ie_verdict_spec::SLOTFRAME {
-        return crate::slotframe_fault::slotframe_fault(s, from, to, seen.slotframe);
+        return crate::slotframe_fault::slotframe_fault(s, from, length, seen.slotframe);
     }
     if kind == ie_verdict_spec::JOINING {
         return joining_fault(

@@ -1,24 +1,7 @@
 // Whether a slotframe and link element is as it should be.
 ghost use mathlib.Core.Path.{_≡_};
-ghost use Prim.Native.Nat.{_+_, _-_, _*_, _<_, _^_};
-ghost use Rattle.ie_verdict_spec.specs.Verdict.{slotframeShape, slotframeLimits, timeslotsFit, slotframeFaultAt};
-
-// The shape of a slotframe and link element, with its own order: too short, the count, the length.
-fn slotframe_shape(length: usize, count: u64, links: usize) -> u8
-    requires { ⌜ links < 256 ⌝ }
-    ensures { λ r. ⌜ r ≡ slotframeShape length count links ⌝ }
-{
-    if length < 5 {
-        return refusal::SHAPE;
-    }
-    if count != 1 {
-        return refusal::OUT_OF_LIMITS;
-    }
-    if length != 5 + 5 * links {
-        return refusal::SHAPE;
-    }
-    refusal::DONE
-}
+ghost use Prim.Native.Nat.{_+_, _*_, _<_, _^_};
+ghost use Rattle.ie_verdict_spec.specs.Verdict.{slotframeLimits, timeslotsFit, slotframeFaultAt};
 
 // The limits of a slotframe and link element.
 fn slotframe_limits(size: u64, links: usize, below: bool) -> u8
@@ -56,30 +39,25 @@ fn timeslots_fit(s: &[u8], at: usize, links: usize, size: u64) -> bool
     true
 }
 
-// A slotframe and link element whose bytes start at `from`.
-fn slotframe_at(s: &[u8], from: usize, length: usize, seen: usize) -> u8
+// The fault of a slotframe and link element of so many bytes from an offset on, and 0 if it has none. `seen` is the offset of one that
+// was taken before, and 0 if there was none.
+pub(crate) fn slotframe_fault(s: &[u8], from: usize, length: usize, seen: usize) -> u8
     requires { ⌜ from + length < 2 ^ 64 ⌝ }
     ensures { λ r. ⌜ r ≡ slotframeFaultAt (now (s .entry)) from length seen ⌝ }
 {
     if length < 5 {
         return refusal::SHAPE;
     }
+    if octets::get::byte(s, from) != 1 {
+        return refusal::OUT_OF_LIMITS;
+    }
     let links = octets::get::byte(s, from + 4) as usize;
-    let fault = slotframe_shape(length, octets::get::byte(s, from), links);
-    if fault != refusal::DONE {
-        return fault;
+    if length != 5 + 5 * links {
+        return refusal::SHAPE;
     }
     if seen != 0 {
         return refusal::MISSING_OR_TWICE;
     }
     let size = octets::get::le(s, from + 2, 2);
     slotframe_limits(size, links, timeslots_fit(s, from + 5, links, size))
-}
-
-// The fault of a slotframe and link element that lies from an offset to another, and 0 if it has none. `seen` is the offset of one that was
-// taken before, and 0 if there was none.
-pub fn slotframe_fault(s: &[u8], from: usize, to: usize, seen: usize) -> u8
-    ensures { λ r. ⌜ r ≡ slotframeFaultAt (now (s .entry)) from (to - from) seen ⌝ }
-{
-    slotframe_at(s, from, octets::span(from, to), seen)
 }

@@ -1,17 +1,15 @@
 -- The laws of the verdicts, in the shape in which the code meets them. Assumes nothing.
-use Prim.Native.Nat.{ℕ, zero, suc, _+_, _-_, _*_, _/_, _%_, _^_, _<_, _≤_}
-use mathlib.Core.Path.{_≡_, refl, sym, _∙_}
+use Prim.Native.Nat.{ℕ, zero, suc, _+_, _-_, _*_, _/_, _%_, _<_, _≤_}
+use mathlib.Core.Path.{_≡_, refl}
 use mathlib.Core.Bool.{Bool, true, false, _&&_}
 use mathlib.Core.List.{List}
 use native.Mathlib.Omega.{arith}
-use native.Mathlib.Nat.{add-zero}
 use borrow.Author.Tests.{lt-ltb, le-ltb}
 use lib.Dec.{ltb}
 use lib.ListN.{getD}
-use Rattle.octets_spec.specs.Choice.{ifLt, ifEq}
 use Rattle.octets_spec.specs.Number.{leAt}
-use Rattle.octets_spec.proofs.ChoiceLaws.{if-lt, if-ge, if-eq, if-ne, was-ge, was-eq, choices}
-use Rattle.ie_verdict_spec.specs.Verdict.{onceOnly, syncFault, timeslotFault, hoppingFault, slotframeShape, slotframeLimits, slotframeFault, joiningFault, timeslotsFit, slotframeFaultAt, partFault}
+use Rattle.octets_spec.proofs.ChoiceLaws.{if-lt, if-ge, if-eq, if-ne, choices}
+use Rattle.ie_verdict_spec.specs.Verdict.{syncFault, timeslotFault, hoppingFault, slotframeShape, slotframeLimits, slotframeFault, joiningFault, timeslotsFit, slotframeFaultAt, partFault}
 use Rattle.ie_verdict_spec.specs.declared.Seen.{Seen}
 
 -- ---- the loop over the timeslots: what is left gives what the whole gives
@@ -33,33 +31,45 @@ module _ (s : List ℕ) (size : ℕ) where
     fit-end none = let e : left ≡ 0 = omega arith in rw e at so-far
 
 -- ---- the slotframe and link element
-pub shape-done : (length count links : ℕ) → slotframeShape length count links ≡ 0 → length ≡ 5 + 5 * links
-unfolding slotframeShape
-shape-done length count links e = was-eq _ _ _ _ _ (was-eq _ _ _ _ _ (was-ge _ _ _ _ _ e (λ (z : 6 ≡ 0). omega arith) .1) (λ (z : 8 ≡ 0). omega arith) .1) (λ (z : 6 ≡ 0). omega arith) .0
-
 module _ (s : List ℕ) (from length seen : ℕ) where
-  pub frame-short : length < 5 → 6 ≡ slotframeFaultAt s from length seen
-  unfolding slotframeFaultAt slotframeFault slotframeShape
-  frame-short h =
-      let e : slotframeShape length (getD s from 0) (getD s (from + 4) 0) ≡ 6 = sym (if-lt _ _ _ _ h refl) in
-      if-ne _ _ _ _ (λ (z : slotframeShape length (getD s from 0) (getD s (from + 4) 0) ≡ 0). absurd (omega (arith, sym e ∙ z))) (sym e)
-
   module _ (count links fault : ℕ) (c : count ≡ getD s from 0) (l : links ≡ getD s (from + 4) 0) (e : fault ≡ slotframeShape length count links) where
-    pub frame-shape : (fault ≡ 0 → ⊥) → fault ≡ slotframeFaultAt s from length seen
+    frame-shape : (fault ≡ 0 → ⊥) → fault ≡ slotframeFaultAt s from length seen
     unfolding slotframeFaultAt slotframeFault
     frame-shape bad = rw (← c, ← l, ← e) (if-ne _ _ fault 0 bad refl)
 
     module _ (good : fault ≡ 0) where
-      pub frame-twice : (seen ≡ 0 → ⊥) → 7 ≡ slotframeFaultAt s from length seen
+      frame-again : (seen ≡ 0 → ⊥) → 7 ≡ slotframeFaultAt s from length seen
       unfolding slotframeFaultAt slotframeFault
-      frame-twice again = rw (← c, ← l, ← e) (if-eq _ _ fault 0 good (if-ne _ _ seen 0 again refl))
+      frame-again again = rw (← c, ← l, ← e) (if-eq _ _ fault 0 good (if-ne _ _ seen 0 again refl))
 
       pub frame-limits : (size r : ℕ) (below : Bool) → seen ≡ 0 → size ≡ leAt 2 s (from + 2) → below ≡ timeslotsFit s (from + 5) links size → r ≡ slotframeLimits size links below → r ≡ slotframeFaultAt s from length seen
       unfolding slotframeFaultAt slotframeFault
       frame-limits size r below once z b k = rw (← c, ← l, ← e, ← z, ← b) (if-eq _ _ fault 0 good (if-eq _ _ seen 0 once k))
 
-pub buffer-for-links : (from length count links fault : ℕ) → from + length < 2 ^ 64 → fault ≡ slotframeShape length count links → fault ≡ 0 → from + 5 + 5 * links < 2 ^ 64
-buffer-for-links from length count links fault buffer e good = omega (arith, shape-done length count links (sym e ∙ good))
+  pub frame-short : length < 5 → 6 ≡ slotframeFaultAt s from length seen
+  unfolding slotframeShape
+  frame-short h = frame-shape _ _ 6 refl refl (if-lt _ _ length 5 h refl) (λ (z : 6 ≡ 0). omega arith)
+
+  module _ (long : 5 ≤ length) (count : ℕ) (c : count ≡ getD s from 0) where
+    pub frame-count : (count ≡ 1 → ⊥) → 8 ≡ slotframeFaultAt s from length seen
+    unfolding slotframeShape
+    frame-count bad = frame-shape count _ 8 c refl (if-ge _ _ length 5 long (if-ne _ _ count 1 bad refl)) (λ (z : 8 ≡ 0). omega arith)
+
+    module _ (one : count ≡ 1) (links : ℕ) (l : links ≡ getD s (from + 4) 0) where
+      pub frame-length : (length ≡ 5 + 5 * links → ⊥) → 6 ≡ slotframeFaultAt s from length seen
+      unfolding slotframeShape
+      frame-length bad = frame-shape count links 6 c l (if-ge _ _ length 5 long (if-eq _ _ count 1 one (if-ne _ _ length _ bad refl))) (λ (z : 6 ≡ 0). omega arith)
+
+      module _ (exact : length ≡ 5 + 5 * links) where
+        shaped : 0 ≡ slotframeShape length count links
+        unfolding slotframeShape
+        shaped = if-ge _ _ length 5 long (if-eq _ _ count 1 one (if-eq _ _ length _ exact refl))
+
+        pub frame-twice : (seen ≡ 0 → ⊥) → 7 ≡ slotframeFaultAt s from length seen
+        frame-twice = frame-again count links 0 c l shaped refl
+
+        pub frame-within : (size r : ℕ) (below : Bool) → seen ≡ 0 → size ≡ leAt 2 s (from + 2) → below ≡ timeslotsFit s (from + 5) links size → r ≡ slotframeLimits size links below → r ≡ slotframeFaultAt s from length seen
+        frame-within = frame-limits count links 0 c l shaped refl
 
 -- ---- an element by its kind
 module _ (s : List ℕ) (kind from to : ℕ) (seen : Seen) (length r : ℕ) (l : length ≡ to - from) where
@@ -78,9 +88,9 @@ module _ (s : List ℕ) (kind from to : ℕ) (seen : Seen) (length r : ℕ) (l :
       part-hopping k e = if-ne _ _ kind 26 no-sync (if-ne _ _ kind 28 no-timeslot (if-eq _ _ kind 137 k (rw l at e)))
 
       module _ (no-hopping : kind ≡ 137 → ⊥) where
-        pub part-slotframe : kind ≡ 27 → r ≡ slotframeFaultAt s from (to - from) (seen .slotframe) → r ≡ partFault s kind from to seen
+        pub part-slotframe : kind ≡ 27 → r ≡ slotframeFaultAt s from length (seen .slotframe) → r ≡ partFault s kind from to seen
         unfolding partFault
-        part-slotframe k e = if-ne _ _ kind 26 no-sync (if-ne _ _ kind 28 no-timeslot (if-ne _ _ kind 137 no-hopping (if-eq _ _ kind 27 k e)))
+        part-slotframe k e = if-ne _ _ kind 26 no-sync (if-ne _ _ kind 28 no-timeslot (if-ne _ _ kind 137 no-hopping (if-eq _ _ kind 27 k (rw l at e))))
 
         module _ (no-slotframe : kind ≡ 27 → ⊥) where
           pub part-joining : (first : ℕ) → kind ≡ 258 → first ≡ getD s from 0 → r ≡ joiningFault length (seen .joining) (first / 64 % 2) → r ≡ partFault s kind from to seen
@@ -92,4 +102,4 @@ module _ (s : List ℕ) (kind from to : ℕ) (seen : Seen) where
   unfolding partFault
   part-unknown a b c d e = if-ne _ _ kind 26 a (if-ne _ _ kind 28 b (if-ne _ _ kind 137 c (if-ne _ _ kind 27 d (if-ne _ _ kind 258 e refl))))
 
-pub ruleset verdicts = (choices, fit-turn, fit-not, fit-end, frame-short, frame-shape, frame-twice, frame-limits, buffer-for-links, part-sync, part-timeslot, part-hopping, part-slotframe, part-joining, part-unknown)
+pub ruleset verdicts = (choices, fit-turn, fit-not, fit-end, frame-short, frame-count, frame-length, frame-twice, frame-within, part-sync, part-timeslot, part-hopping, part-slotframe, part-joining, part-unknown)

@@ -11,7 +11,7 @@ pub fn header_list(s: &[u8], at: usize, end: usize) -> HeaderListEnd
     let mut i = at;
     let mut skipped = 0;
     loop {
-        match ie_step::header_step::header_step(s, i, end) {
+        match ie_step::header_step(s, i, end) {
             HeaderStep::End => {
                 return HeaderListEnd {
                     fault: 0,

@@ -103,7 +103,7 @@ fn outer(s: &[u8], at: usize, end: usize, walk: Walk) -> Walk
     let mut i = at;
     let mut noted = walk;
     loop {
-        match ie_step::outer_step::outer_step(s, i, end) {
+        match ie_step::outer_step(s, i, end) {
             OuterStep::End => {
                 return noted;
             }
@@ -144,7 +144,7 @@ fn group(s: &[u8], at: usize, to: usize, end: usize, walk: Walk) -> GroupEnd
     let mut i = at;
     let mut noted = walk;
     loop {
-        match ie_step::inner_step::inner_step(s, i, to) {
+        match ie_step::inner_step(s, i, to) {
             InnerStep::Back => {
                 if to < end {
                     return GroupEnd::Passed(noted);

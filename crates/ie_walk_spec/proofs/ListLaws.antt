@@ -5,7 +5,6 @@ use mathlib.Core.Path.{_≡_, refl, sym, _∙_}
 use mathlib.Core.List.{List}
 use native.Mathlib.Omega.{arith}
 use native.Mathlib.Nat.{not-suc-le-zero, le-of-lt}
-use Rattle.octets_spec.specs.Choice.{ifEq}
 use Rattle.octets_spec.proofs.ChoiceLaws.{if-eq, if-ne}
 use Rattle.ie_step_spec.proofs.StepLaws.{outer-end}
 use Rattle.ie_step_spec.specs.Header.{headerAt, headerWithin}

@@ -1,25 +1,14 @@
 -- The laws of the walk, in the shape in which the code meets them. Assumes nothing.
-use Prim.Native.Nat.{ℕ, zero, suc, _+_, _-_, _*_, _<_, _≤_}
-use mathlib.Core.Path.{_≡_, refl, sym, _∙_}
+use Prim.Native.Nat.{ℕ, _-_}
+use mathlib.Core.Path.{_≡_, refl, _∙_}
 use mathlib.Core.List.{List}
-use native.Mathlib.Omega.{arith}
-use native.Mathlib.Nat.{not-suc-le-zero}
 use borrow.Author.Tests.{ne-eqb}
 use Rattle.octets_spec.specs.Choice.{ifEq}
 use Rattle.octets_spec.proofs.ChoiceLaws.{if-eq, if-ne, choices}
 use Rattle.ie_verdict_spec.specs.Verdict.{partFault}
 use Rattle.ie_verdict_spec.specs.declared.Seen.{Seen}
-use Rattle.ie_step_spec.specs.Header.{headerAt, headerWithin}
-use Rattle.ie_step_spec.specs.Payload.{outerAt, outerWithin, innerAt, innerWithin}
-use Rattle.ie_step_spec.specs.declared.HeaderStep.{HeaderStep}
-use Rattle.ie_step_spec.specs.declared.HeaderStep.the-variants as header
-use Rattle.ie_step_spec.specs.declared.OuterStep.{OuterStep}
-use Rattle.ie_step_spec.specs.declared.OuterStep.the-variants as outer
-use Rattle.ie_step_spec.specs.declared.InnerStep.{InnerStep}
-use Rattle.ie_step_spec.specs.declared.InnerStep.the-variants as inner
-use Rattle.ie_walk_spec.specs.Walk.{bump, seenOf, skipOne, taken, stopped, partTaken, headerGo, headerList, outerGo, groupGo, OuterIs, GroupIs, payloadList}
+use Rattle.ie_walk_spec.specs.Walk.{bump, seenOf, skipOne, taken, stopped, partTaken}
 use Rattle.ie_walk_spec.specs.declared.Walk.{Walk}
-use Rattle.ie_walk_spec.specs.declared.HeaderListEnd.{HeaderListEnd}
 
 -- ---- notes
 module _ (w : Walk) where

@@ -1,6 +1,6 @@
 -- What stands before the elements: frame control, the fixed fields, and the checks up to the destination, in their order
 -- (docs/RULES.md, The frame). Assumes nothing.
-use Prim.Native.Nat.{ℕ, _+_, _-_, _/_, _%_}
+use Prim.Native.Nat.{ℕ, _+_, _/_, _%_}
 use mathlib.Core.List.{List}
 use lib.ListN.{length}
 use Rattle.octets_spec.specs.Choice.{ifLt, ifEq}

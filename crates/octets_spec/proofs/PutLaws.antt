@@ -3,7 +3,7 @@
 use Prim.Native.Nat.{ℕ, zero, suc, _+_, _-_, _*_, _/_, _%_, _^_, _<_, _≤_}
 use mathlib.Core.Path.{_≡_, refl, sym, _∙_, ap}
 use mathlib.Core.List.{List, [], _∷_}
-use native.Mathlib.Nat.{pow-suc, pow-succ', one-le-pow, mul-assoc, mul-add, mul-suc, mul-one, mul-le-mul-left, add-zero, sub-zero, div-add-mod, div-one, div-div-eq-div-mul, mod-lt, mod-one, mod-eq-of-lt, mul-add-mod-self-left, le-suc}
+use native.Mathlib.Nat.{pow-suc, pow-succ', one-le-pow, mul-assoc, mul-add, mul-suc, mul-le-mul-left, add-zero, sub-zero, div-add-mod, div-one, div-div-eq-div-mul, mod-lt, mod-one, mod-eq-of-lt, mul-add-mod-self-left}
 use native.Mathlib.Numerals.{add-one}
 use native.Mathlib.Omega.{arith}
 use lib.Dec.{lit<, lit≤}

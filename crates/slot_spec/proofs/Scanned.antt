@@ -8,10 +8,9 @@ use native.Mathlib.Nat.{le-refl, mod-eq-of-lt}
 use native.Mathlib.Omega.{arith}
 use borrow.Author.Tests.{leb-true}
 use lib.Dec.{leb, eqb}
-use lib.ListN.{length, getD, take, drop, drop-of-length-le}
-use lib.Seq.{drop-cons, getD-take, length-take-le}
-use Rattle.octets_spec.specs.Choice.{ifOn, ifLt}
-use Rattle.octets_spec.proofs.ChoiceLaws.{if-lt, if-ge}
+use lib.ListN.{length, getD, drop, drop-of-length-le}
+use lib.Seq.{drop-cons}
+use Rattle.octets_spec.specs.Choice.{ifOn}
 use Rattle.eb_record_spec.specs.declared.Link.{Link}
 use Rattle.eb_record_spec.specs.Record.{blankLink}
 use Rattle.slot_spec.specs.Slot.{limits, timeslotsBelow, slotOffset, isActive, optionBit, firstActive, decision}
@@ -108,26 +107,3 @@ module _ (links : List Link) (start : Scan) where
 pub decides : (links : List Link) (size id asn : ℕ) (waits : Bool) (seen : Scan) (r : Decision) → seen ≡ scanned (begun asn size) 0 links → r ≡ concluded seen (length links) id asn waits
     → r ≡ decision links size id asn waits
 decides links size id asn waits seen r e f = f ∙ rw e (decided links size id asn waits)
-
--- ---- the same through the first `count` links of an array
-module _ (links : List Link) (size id asn : ℕ) (waits : Bool) (count : ℕ) where
-  pub listed-over : 16 < count → Refused ≡ ifLt 16 count Refused (decision (take count links) size id asn waits)
-  listed-over over = if-lt _ _ 16 count over refl
-
-  module _ (whole : length links ≡ 16) (within : count ≤ 16) where
-    long : length (take count links) ≡ count
-    long = length-take-le count links (omega arith)
-
-    pub listed-begin : (start : Scan) → start ≡ begun asn size → start ≡ scanned (begun asn size) count (drop count (take count links))
-    listed-begin start e = e ∙ rw long at (begin-at-end (take count links) (begun asn size))
-
-    pub listed-turn : (i : ℕ) (seen next : Scan) → 0 < i → i ≤ count → seen ≡ scanned (begun asn size) i (drop i (take count links))
-        → next ≡ stepped seen (getD links (i - 1) blankLink) (i - 1) → next ≡ scanned (begun asn size) (i - 1) (drop (i - 1) (take count links))
-    listed-turn i seen next more low so-far e =
-        turn (take count links) (begun asn size) i seen next more (omega (arith, long)) so-far (rw (getD-take count links (i - 1) blankLink (omega arith)) e)
-
-    pub listed-end : (i : ℕ) (seen : Scan) (r : Decision) → i ≤ 0 → seen ≡ scanned (begun asn size) i (drop i (take count links))
-        → r ≡ concluded seen count id asn waits → r ≡ ifLt 16 count Refused (decision (take count links) size id asn waits)
-    listed-end i seen r over so-far e =
-        let none : i ≡ 0 = omega arith in
-        if-ge _ _ 16 count within (decides (take count links) size id asn waits seen r (rw none at so-far) (rw long e))

@@ -1,6 +1,6 @@
 -- The laws of the slot decision in the shape in which the code meets them: one for each way out of a function, with the results of
 -- its calls as variables. Assumes nothing.
-use Prim.Native.Nat.{ℕ, _<_, _≤_, _-_, _/_, _%_, _^_}
+use Prim.Native.Nat.{ℕ, _<_, _-_, _/_, _%_, _^_}
 use mathlib.Core.Path.{_≡_, refl, sym, _∙_}
 use mathlib.Core.Bool.{Bool, true, false, _&&_, _||_}
 use native.Mathlib.Nat.{div-one, mod-lt, pos-of-ne-zero}
@@ -8,7 +8,7 @@ use native.Mathlib.Omega.{arith}
 use mir.Syntax.{w32}
 use mir.Val.{Fits}
 use lib.Dec.{ltb, leb, eqb}
-use Rattle.octets_spec.specs.Choice.{ifOn, ifEq}
+use Rattle.octets_spec.specs.Choice.{ifOn}
 use Rattle.octets_spec.proofs.ChoiceLaws.{if-on, if-off, if-eq, if-ne, choices}
 use Rattle.eb_record_spec.specs.declared.Link.{Link}
 use Rattle.slot_spec.specs.Hopping.{channelOf}

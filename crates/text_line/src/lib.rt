@@ -5,7 +5,7 @@ ghost use Prim.Native.Nat.{_+_, _<_, _≤_};
 ghost use lib.ListN.{length, take, drop};
 ghost use Rattle.eb_read_spec.specs.Read.{readFrame};
 ghost use Rattle.io.specs.Counts.{Counts};
-ghost use Rattle.text_line_spec.specs.Line.{decimal, field, synchronizationText, slotframeText, acceptedText, refusedText, lineOf, newline, PartPut};
+ghost use Rattle.text_line_spec.specs.Line.{decimal, field, synchronizationText, slotframeText, acceptedText, refusedText, lineOf, PartPut};
 
 // Each of these puts a part of the line from an offset on, and answers the offset behind it.
 fn put_text(buffer: &mut [u8], at: usize, text: &[u8]) -> usize
@@ -18,14 +18,6 @@ fn put_text(buffer: &mut [u8], at: usize, text: &[u8]) -> usize
         i += 1;
     }
     at + i
-}
-
-fn put_newline(buffer: &mut [u8], at: usize) -> usize
-    requires { ⌜ at < length (now buffer) ⌝ }
-    ensures { λ r. ⌜ PartPut (now (buffer .entry)) at newline (now (buffer .exit)) r ⌝ }
-{
-    buffer[at] = b'\n';
-    at + 1
 }
 
 fn put_decimal(buffer: &mut [u8], at: usize, value: u64) -> usize
@@ -59,7 +51,7 @@ fn put_slotframe(buffer: &mut [u8], at: usize, size: u16, links: u16) -> usize
 {
     let next = put_field(buffer, at, b" size ", size as u64);
     let last = put_field(buffer, next, b" links ", links as u64);
-    put_newline(buffer, last)
+    put_text(buffer, last, b"\n")
 }
 
 fn put_accepted(buffer: &mut [u8], beacon: eb_record_spec::Beacon) -> usize
@@ -79,7 +71,7 @@ fn put_refused(buffer: &mut [u8], number: u8) -> usize
     ensures { λ r. ⌜ PartPut (now (buffer .entry)) 0 (refusedText number) (now (buffer .exit)) r × (r ≤ 128) ⌝ }
 {
     let last = put_field(buffer, 0, b"refused ", number as u64);
-    put_newline(buffer, last)
+    put_text(buffer, last, b"\n")
 }
 
 // Reads a frame, puts its line at the start of the buffer, and answers how many bytes the line has. A buffer of under 128 bytes is left as

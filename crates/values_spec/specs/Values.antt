@@ -1,6 +1,6 @@
 -- The worked values, as a single list under a single claim: each of them holds (docs/RULES.md, Worked values). They speak of the
 -- definitions that the contracts cite. Assumes nothing.
-use Prim.Native.Nat.{ℕ, _+_, _-_, _^_}
+use Prim.Native.Nat.{ℕ, _-_, _^_}
 use mathlib.Core.Path.{_≡_}
 use mathlib.Core.Bool.{Bool, true, false, cond}
 use mathlib.Core.List.{List, [], _∷_}

@@ -7,22 +7,18 @@ use Rattle.eb_limits.proofs.source_fits.Tie as tie
 enum-known-source : tie.Need-enum-known-source
 enum-known-source c = search needs
 
-in-two-bytes-requires : tie.Need-in-two-bytes-requires
-in-two-bytes-requires c κs = search needs
-
-returns : tie.Need-returns
-returns c = search (needs, limits)
+cast-result : tie.Need-cast-result
+cast-result c = search needs
 
 enum-known-source-2 : tie.Need-enum-known-source-2
 enum-known-source-2 c = search needs
 
-in-eight-bytes-requires : tie.Need-in-eight-bytes-requires
-in-eight-bytes-requires c κs = search needs
+returns : tie.Need-returns
+returns c = search (needs, limits)
 
 returns-2 : tie.Need-returns-2
 returns-2 c = search (needs, limits)
 
 pub source-fits-spec : {M : Type 1} → statement M
 source-fits-spec =
-    tie.close
-    (tie.spec enum-known-source in-two-bytes-requires returns enum-known-source-2 in-eight-bytes-requires returns-2)
+    tie.close (tie.spec enum-known-source cast-result enum-known-source-2 returns returns-2)

@@ -1,5 +1,5 @@
 -- `eb_limits::within_limits` meets its contract. Assumes nothing.
-use Rattle.eb_limits.proofs.LimitLaws.{limits}
+use Rattle.eb_limits.proofs.LimitLaws.{within-is}
 use borrow.Author.Needs.{needs}
 use Rattle.eb_limits.proofs.within_limits.Statement.{statement}
 use Rattle.eb_limits.proofs.within_limits.Tie as tie
@@ -23,7 +23,7 @@ joining-fits-requires : tie.Need-joining-fits-requires
 joining-fits-requires c κs = search needs
 
 returns : tie.Need-returns
-returns c = search (needs, limits)
+returns c = within-is _ _ _ _ _ _ _ (search needs) (search needs) (c .before .before .before .before .before .sequence-fits .ensures) (c .before .before .before .before .source-fits .ensures) (c .before .before .before .synchronization-fits .ensures) (c .before .before .template-fits .ensures) (c .before .slotframe-fits .ensures) (c .joining-fits .ensures)
 
 pub within-limits-spec : {M : Type 1} → statement M
 within-limits-spec =

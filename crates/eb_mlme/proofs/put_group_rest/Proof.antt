@@ -4,9 +4,6 @@ use borrow.Author.Needs.{needs}
 use Rattle.eb_mlme.proofs.put_group_rest.Statement.{statement}
 use Rattle.eb_mlme.proofs.put_group_rest.Tie as tie
 
-returns : tie.Need-returns
-returns c = search (needs, grouping)
-
 mul-put-le : tie.Need-mul-put-le
 mul-put-le c = search needs
 
@@ -25,11 +22,11 @@ put-slotframe-requires c κs = search needs
 same-length : tie.Need-same-length
 same-length c = search needs
 
-returns-2 : tie.Need-returns-2
-returns-2 c = search (needs, grouping)
+returns : tie.Need-returns
+returns c = search (needs, grouping)
 
 pub put-group-rest-spec : {M : Type 1} → statement M
 put-group-rest-spec =
     tie.close
-    (tie.spec returns mul-put-le add-put-le put-le-requires add-put-slotframe put-slotframe-requires same-length
-    returns-2)
+    (tie.spec mul-put-le add-put-le put-le-requires add-put-slotframe put-slotframe-requires same-length
+    returns)

@@ -4,9 +4,6 @@ use borrow.Author.Needs.{needs}
 use Rattle.eb_mlme.proofs.put_group_start.Statement.{statement}
 use Rattle.eb_mlme.proofs.put_group_start.Tie as tie
 
-returns : tie.Need-returns
-returns c = search (needs, grouping)
-
 group-size-requires : tie.Need-group-size-requires
 group-size-requires c κs = search needs
 
@@ -34,11 +31,11 @@ put-template-requires c κs = search needs
 same-length : tie.Need-same-length
 same-length c = search needs
 
-returns-2 : tie.Need-returns-2
-returns-2 c = search (needs, grouping)
+returns : tie.Need-returns
+returns c = search (needs, grouping)
 
 pub put-group-start-spec : {M : Type 1} → statement M
 put-group-start-spec =
     tie.close
-    (tie.spec returns group-size-requires add-put-le put-le-requires add-put-le-2 synchronization-number-requires
-    put-le-requires-2 add-put-template put-template-requires same-length returns-2)
+    (tie.spec group-size-requires add-put-le put-le-requires add-put-le-2 synchronization-number-requires
+    put-le-requires-2 add-put-template put-template-requires same-length returns)

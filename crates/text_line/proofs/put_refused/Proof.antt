@@ -10,8 +10,11 @@ slice-aggregate-put-field c = search needs
 put-field-requires : tie.Need-put-field-requires
 put-field-requires c κs = search needs
 
-put-newline-requires : tie.Need-put-newline-requires
-put-newline-requires c κs = search needs
+slice-aggregate-put-text : tie.Need-slice-aggregate-put-text
+slice-aggregate-put-text c = search needs
+
+put-text-requires : tie.Need-put-text-requires
+put-text-requires c κs = search needs
 
 same-length : tie.Need-same-length
 same-length c = search needs
@@ -22,4 +25,5 @@ returns c = search (needs, lines)
 pub put-refused-spec : {M : Type 1} → statement M
 put-refused-spec =
     tie.close
-    (tie.spec slice-aggregate-put-field put-field-requires put-newline-requires same-length returns)
+    (tie.spec slice-aggregate-put-field put-field-requires slice-aggregate-put-text put-text-requires same-length
+    returns)

@@ -16,8 +16,11 @@ slice-aggregate-put-field-2 c = search needs
 put-field-requires-2 : tie.Need-put-field-requires-2
 put-field-requires-2 c κs = search needs
 
-put-newline-requires : tie.Need-put-newline-requires
-put-newline-requires c κs = search needs
+slice-aggregate-put-text : tie.Need-slice-aggregate-put-text
+slice-aggregate-put-text c = search needs
+
+put-text-requires : tie.Need-put-text-requires
+put-text-requires c κs = search needs
 
 same-length : tie.Need-same-length
 same-length c = search needs
@@ -29,4 +32,4 @@ pub put-slotframe-spec : {M : Type 1} → statement M
 put-slotframe-spec =
     tie.close
     (tie.spec slice-aggregate-put-field put-field-requires slice-aggregate-put-field-2 put-field-requires-2
-    put-newline-requires same-length returns)
+    slice-aggregate-put-text put-text-requires same-length returns)

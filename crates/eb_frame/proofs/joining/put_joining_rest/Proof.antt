@@ -4,11 +4,14 @@ use borrow.Author.Needs.{needs}
 use Rattle.eb_frame.proofs.joining.put_joining_rest.Statement.{statement}
 use Rattle.eb_frame.proofs.joining.put_joining_rest.Tie as tie
 
-returns : tie.Need-returns
-returns c = search (needs, joinings)
+flag-of-requires : tie.Need-flag-of-requires
+flag-of-requires c κs = search needs
 
-address-width-requires : tie.Need-address-width-requires
-address-width-requires c κs = search needs
+cast-width : tie.Need-cast-width
+cast-width c = search needs
+
+mul-width : tie.Need-mul-width
+mul-width c = search needs
 
 put-be-requires : tie.Need-put-be-requires
 put-be-requires c κs = search needs
@@ -31,11 +34,11 @@ put-network-requires c κs = search needs
 same-length : tie.Need-same-length
 same-length c = search needs
 
-returns-2 : tie.Need-returns-2
-returns-2 c = search (needs, joinings)
+returns : tie.Need-returns
+returns c = search (needs, joinings)
 
 pub put-joining-rest-spec : {M : Type 1} → statement M
 put-joining-rest-spec =
     tie.close
-    (tie.spec returns address-width-requires put-be-requires cast-put-network add-put-network cast-at-most-16
-    at-most-16-requires put-network-requires same-length returns-2)
+    (tie.spec flag-of-requires cast-width mul-width put-be-requires cast-put-network add-put-network cast-at-most-16
+    at-most-16-requires put-network-requires same-length returns)

@@ -4,9 +4,6 @@ use borrow.Author.Needs.{needs}
 use Rattle.eb_frame.proofs.joining.put_joining_start.Statement.{statement}
 use Rattle.eb_frame.proofs.joining.put_joining_start.Tie as tie
 
-returns : tie.Need-returns
-returns c = search (needs, joinings)
-
 joining-size-requires : tie.Need-joining-size-requires
 joining-size-requires c κs = search needs
 
@@ -34,11 +31,11 @@ put-be-requires c κs = search needs
 same-length : tie.Need-same-length
 same-length c = search needs
 
-returns-2 : tie.Need-returns-2
-returns-2 c = search (needs, joinings)
+returns : tie.Need-returns
+returns c = search (needs, joinings)
 
 pub put-joining-start-spec : {M : Type 1} → statement M
 put-joining-start-spec =
     tie.close
-    (tie.spec returns joining-size-requires add-put-le mul-put-le add-put-le-2 put-le-requires add-put-be
-    joining-word-requires put-be-requires same-length returns-2)
+    (tie.spec joining-size-requires add-put-le mul-put-le add-put-le-2 put-le-requires add-put-be
+    joining-word-requires put-be-requires same-length returns)

@@ -14,9 +14,6 @@ Inv-loop buffer₀ at used network i₀ buffer i = (i ≤ used) × (length buffe
 abbrev μ-loop : tie.MeasureT-loop
 μ-loop buffer₀ at used network i₀ buffer i = used - i
 
-returns : tie.Need-returns Inv-loop μ-loop
-returns c = search (needs, joinings)
-
 loop-holds : tie.Need-loop-holds Inv-loop μ-loop
 loop-holds c = search (needs, joinings)
 
@@ -41,16 +38,16 @@ loop-less c = search (needs, joinings)
 loop-again : tie.Need-loop-again Inv-loop μ-loop
 loop-again c =
     let now = c .before .before .before .before .before .before in
-    (search needs, search needs, search needs, bytes-next _ _ _ _ _ _ (now .loop .inv .3) 16 _ _ (now .loop .inv .2) (now .before .before .before .pre) (c .before .before .before .before .before .loop-test .taken) (c .before .before .before .wide .ensures .0) (c .before .before .before .wide .ensures .1) (c .before .before .put-le .ensures .0))
+    (search needs, search needs, search needs, bytes-next _ _ _ _ _ _ (now .loop .inv .3) 16 _ _ (now .loop .inv .2) (now .before .before .pre .0) (c .before .before .before .before .before .loop-test .taken) (c .before .before .before .wide .ensures .0) (c .before .before .before .wide .ensures .1) (c .before .before .put-le .ensures .0))
 
 same-length : tie.Need-same-length Inv-loop μ-loop
 same-length c = search needs
 
-returns-2 : tie.Need-returns-2 Inv-loop μ-loop
-returns-2 c = search (needs, joinings)
+returns : tie.Need-returns Inv-loop μ-loop
+returns c = search (needs, joinings)
 
 pub put-network-spec : {M : Type 1} → statement M
 put-network-spec =
     tie.close
-    (tie.spec Inv-loop μ-loop returns loop-holds add-put-le array-read-wide wide-requires put-le-requires add-i
-    loop-less loop-again same-length returns-2)
+    (tie.spec Inv-loop μ-loop loop-holds add-put-le array-read-wide wide-requires put-le-requires add-i
+    loop-less loop-again same-length returns)

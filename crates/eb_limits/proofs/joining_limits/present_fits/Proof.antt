@@ -1,5 +1,5 @@
 -- `eb_limits::joining_limits::present_fits` meets its contract. Assumes nothing.
-use Rattle.eb_limits.proofs.JoiningLaws.{joinings}
+use Rattle.eb_limits.proofs.LimitLaws.{present-is}
 use borrow.Author.Needs.{needs}
 use Rattle.eb_limits.proofs.joining_limits.present_fits.Statement.{statement}
 use Rattle.eb_limits.proofs.joining_limits.present_fits.Tie as tie
@@ -16,14 +16,14 @@ address-fits-requires c κs = search needs
 network-below-requires : tie.Need-network-below-requires
 network-below-requires c κs = search needs
 
-network-unused-requires : tie.Need-network-unused-requires
-network-unused-requires c κs = search needs
+network-below-requires-2 : tie.Need-network-below-requires-2
+network-below-requires-2 c κs = search needs
 
 returns : tie.Need-returns
-returns c = search (needs, joinings)
+returns c = present-is _ (c .network-below2 .ensures .1) _ _ _ _ (search needs) (c .before .before .before .before .before .before .at-most-16 .ensures .0) (c .before .before .before .address-fits .ensures) (c .before .network-below .ensures .0) (c .network-below2 .ensures .0)
 
 pub present-fits-spec : {M : Type 1} → statement M
 present-fits-spec =
     tie.close
     (tie.spec cast-at-most-16 at-most-16-requires address-fits-requires network-below-requires
-    network-unused-requires returns)
+    network-below-requires-2 returns)

@@ -1,5 +1,6 @@
 -- `eb_limits::sizes::frame_length` meets its contract. Assumes nothing.
-use Rattle.eb_limits.proofs.LengthLaws.{lengths}
+use Rattle.eb_limits.proofs.SizeLaws.{length-says}
+use Rattle.eb_write_spec.proofs.RangeLaws.{length-mapped}
 use borrow.Author.Needs.{needs}
 use Rattle.eb_limits.proofs.sizes.frame_length.Statement.{statement}
 use Rattle.eb_limits.proofs.sizes.frame_length.Tie as tie
@@ -29,7 +30,7 @@ add-result-4 : tie.Need-add-result-4
 add-result-4 c = search needs
 
 returns : tie.Need-returns
-returns c = search (needs, lengths)
+returns c = length-says _ _ _ _ _ (c .before .before .before .sequence-size .ensures .0) (c .before .before .source-size .ensures .0) (c .before .group-size .ensures .0) (c .joining-part .ensures .0) (search needs) (search (needs, length-mapped)) (search needs)
 
 pub frame-length-spec : {M : Type 1} → statement M
 frame-length-spec =

@@ -1,5 +1,5 @@
 -- `eb_limits::sizes::group_size` meets its contract. Assumes nothing.
-use Rattle.eb_limits.proofs.GroupSizeLaws.{sizing}
+use Rattle.eb_limits.proofs.SizeLaws.{group-is}
 use borrow.Author.Needs.{needs}
 use Rattle.eb_limits.proofs.sizes.group_size.Statement.{statement}
 use Rattle.eb_limits.proofs.sizes.group_size.Tie as tie
@@ -17,7 +17,7 @@ add-result-2 : tie.Need-add-result-2
 add-result-2 c = search needs
 
 returns : tie.Need-returns
-returns c = search (needs, sizing)
+returns c = (group-is _ _ _ (c .template-size .ensures .0), search needs)
 
 pub group-size-spec : {M : Type 1} → statement M
 group-size-spec =

@@ -1,5 +1,5 @@
 -- `eb_limits::sizes::template_size` meets its contract. Assumes nothing.
-use Rattle.eb_limits.proofs.GroupSizeLaws.{sizing}
+use Rattle.eb_limits.proofs.SizeLaws.{size-timed, size-bare}
 use borrow.Author.Needs.{needs}
 use Rattle.eb_limits.proofs.sizes.template_size.Statement.{statement}
 use Rattle.eb_limits.proofs.sizes.template_size.Tie as tie
@@ -17,10 +17,10 @@ add-result : tie.Need-add-result
 add-result c = search needs
 
 returns : tie.Need-returns
-returns c = search (needs, sizing)
+returns c = (size-timed _ _ (search needs) (c .last-width .ensures .0), search needs)
 
 returns-2 : tie.Need-returns-2
-returns-2 c = search (needs, sizing)
+returns-2 c = (size-bare _ (search needs), search needs)
 
 pub template-size-spec : {M : Type 1} → statement M
 template-size-spec =

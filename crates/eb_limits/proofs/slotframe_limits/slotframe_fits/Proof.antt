@@ -1,5 +1,6 @@
 -- `eb_limits::slotframe_limits::slotframe_fits` meets its contract. Assumes nothing.
-use Rattle.eb_limits.proofs.SlotframeLaws.{slotframes}
+use Rattle.eb_limits.proofs.LimitLaws.{slotframe-is}
+use Rattle.eb_write_spec.proofs.RangeLaws.{length-mapped}
 use borrow.Author.Needs.{needs}
 use Rattle.eb_limits.proofs.slotframe_limits.slotframe_fits.Statement.{statement}
 use Rattle.eb_limits.proofs.slotframe_limits.slotframe_fits.Tie as tie
@@ -14,7 +15,7 @@ links-unused-requires : tie.Need-links-unused-requires
 links-unused-requires c κs = search needs
 
 returns : tie.Need-returns
-returns c = search (needs, slotframes)
+returns c = slotframe-is _ _ _ _ (search (needs, length-mapped)) (search needs) (search needs) (search needs) (c .before .links-fit .ensures) (c .links-unused .ensures)
 
 pub slotframe-fits-spec : {M : Type 1} → statement M
 slotframe-fits-spec =

@@ -15,9 +15,6 @@ Inv-loop buffer₀ at used links i₀ buffer i = (i ≤ used) × (length buffer 
 abbrev μ-loop : tie.MeasureT-loop
 μ-loop buffer₀ at used links i₀ buffer i = used - i
 
-returns : tie.Need-returns Inv-loop μ-loop
-returns c = search (needs, slotframes)
-
 loop-holds : tie.Need-loop-holds Inv-loop μ-loop
 loop-holds c = search (needs, slotframes)
 
@@ -50,16 +47,16 @@ loop-again c =
     let wrote = c .before .before in
     let turn = wrote .before .before .before .before in
     let now = turn .before in
-    (search needs, search needs, search needs, links-next _ _ _ _ _ _ (now .loop .inv .3) 16 _ _ _ (now .loop .inv .2) (now .before .before .before .pre) (turn .loop-test .taken) (wrote .before .link-number .ensures) (wrote .put-le .ensures .0))
+    (search needs, search needs, search needs, links-next _ _ _ _ _ _ (now .loop .inv .3) 16 _ _ _ (now .loop .inv .2) (now .before .before .pre .0) (turn .loop-test .taken) (wrote .before .link-number .ensures) (wrote .put-le .ensures .0))
 
 same-length : tie.Need-same-length Inv-loop μ-loop
 same-length c = search needs
 
-returns-2 : tie.Need-returns-2 Inv-loop μ-loop
-returns-2 c = search (needs, slotframes)
+returns : tie.Need-returns Inv-loop μ-loop
+returns c = search (needs, slotframes)
 
 pub put-links-spec : {M : Type 1} → statement M
 put-links-spec =
     tie.close
-    (tie.spec Inv-loop μ-loop returns loop-holds mul-put-le add-put-le mul-link-number array-copy-out-link-number
-    link-number-requires put-le-requires add-i loop-less loop-again same-length returns-2)
+    (tie.spec Inv-loop μ-loop loop-holds mul-put-le add-put-le mul-link-number array-copy-out-link-number
+    link-number-requires put-le-requires add-i loop-less loop-again same-length returns)

@@ -15,9 +15,6 @@ Inv-loop buffer₀ at timings i₀ buffer i = (i ≤ 10) × (length buffer ≡ l
 abbrev μ-loop : tie.MeasureT-loop
 μ-loop buffer₀ at timings i₀ buffer i = 10 - i
 
-returns : tie.Need-returns Inv-loop μ-loop
-returns c = search (needs, templates)
-
 loop-holds : tie.Need-loop-holds Inv-loop μ-loop
 loop-holds c = search (needs, templates)
 
@@ -51,11 +48,11 @@ loop-again c = search (needs, templates)
 same-length : tie.Need-same-length Inv-loop μ-loop
 same-length c = search needs
 
-returns-2 : tie.Need-returns-2 Inv-loop μ-loop
-returns-2 c = search (needs, templates)
+returns : tie.Need-returns Inv-loop μ-loop
+returns c = search (needs, templates)
 
 pub put-first-timings-spec : {M : Type 1} → statement M
 put-first-timings-spec =
     tie.close
-    (tie.spec Inv-loop μ-loop returns loop-holds mul-put-le add-put-le mul-put-le-2 array-read-put-le cast-put-le
-    put-le-requires add-i loop-less loop-again same-length returns-2)
+    (tie.spec Inv-loop μ-loop loop-holds mul-put-le add-put-le mul-put-le-2 array-read-put-le cast-put-le
+    put-le-requires add-i loop-less loop-again same-length returns)

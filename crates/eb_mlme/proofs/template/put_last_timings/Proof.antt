@@ -4,9 +4,6 @@ use borrow.Author.Needs.{needs}
 use Rattle.eb_mlme.proofs.template.put_last_timings.Statement.{statement}
 use Rattle.eb_mlme.proofs.template.put_last_timings.Tie as tie
 
-returns : tie.Need-returns
-returns c = search (needs, templates)
-
 last-width-requires : tie.Need-last-width-requires
 last-width-requires c κs = search needs
 
@@ -37,11 +34,11 @@ put-le-requires-2 c κs = search needs
 same-length : tie.Need-same-length
 same-length c = search needs
 
-returns-2 : tie.Need-returns-2
-returns-2 c = search (needs, templates)
+returns : tie.Need-returns
+returns c = search (needs, templates)
 
 pub put-last-timings-spec : {M : Type 1} → statement M
 put-last-timings-spec =
     tie.close
-    (tie.spec returns last-width-requires array-read-put-le cast-put-le put-le-requires cast-put-le-2 add-put-le
-    array-read-put-le-2 cast-put-le-3 put-le-requires-2 same-length returns-2)
+    (tie.spec last-width-requires array-read-put-le cast-put-le put-le-requires cast-put-le-2 add-put-le
+    array-read-put-le-2 cast-put-le-3 put-le-requires-2 same-length returns)

@@ -7,8 +7,8 @@ use borrow.Fn.Kinds.{In}
 use borrow.Fn.PlainCycle.{Measures, is, falls, and}
 use Rattle.ie_walk.proofs.payload_list.group.Reads as group
 use Rattle.ie_walk.proofs.payload_list.outer.Reads as outer
-use Rattle.ie_step.proofs.inner_step.inner_step.Reads as inner-step-reads
-use Rattle.ie_step.proofs.outer_step.outer_step.Reads as outer-step-reads
+use Rattle.ie_step.proofs.inner_step.Reads as inner-step-reads
+use Rattle.ie_step.proofs.outer_step.Reads as outer-step-reads
 use Rattle.ie_walk.proofs.payload_list.part.Reads as part-reads
 use Rattle.ie_walk.proofs.payload_list.skip_one.Reads as skip-one-reads
 use Rattle.ie_walk.proofs.payload_list.stop.Reads as stop-reads

@@ -1,5 +1,5 @@
 -- `octets::get::be_within` meets its contract. Assumes nothing.
-use Prim.Native.Nat.{_+_, _-_, _≤_}
+use Prim.Native.Nat.{_-_, _≤_}
 use borrow.Author.Needs.{needs}
 use Rattle.octets_spec.specs.Number.{beAt}
 use Rattle.octets_spec.proofs.NumberLaws.{Read, be-begins, be-turn, be-times, be-plus, be-ends}

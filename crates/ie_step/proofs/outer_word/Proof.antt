@@ -1,10 +1,10 @@
--- `ie_step::outer_step::outer_word` meets its contract. Assumes nothing.
+-- `ie_step::outer_word` meets its contract. Assumes nothing.
 use Rattle.ie_step_spec.specs.Payload.{outerWord}
 use Rattle.ie_step_spec.proofs.StepLaws.{widen}
-use Rattle.octets_spec.proofs.ChoiceLaws.{choices}
+use Rattle.octets_spec.proofs.ChoiceLaws.{if-ge, if-ne, choices}
 use borrow.Author.Needs.{needs}
-use Rattle.ie_step.proofs.outer_step.outer_word.Statement.{statement}
-use Rattle.ie_step.proofs.outer_step.outer_word.Tie as tie
+use Rattle.ie_step.proofs.outer_word.Statement.{statement}
+use Rattle.ie_step.proofs.outer_word.Tie as tie
 
 add-from : tie.Need-add-from
 add-from c = search needs
@@ -36,7 +36,7 @@ group-word-requires c κs = search needs
 
 returns-5 : tie.Need-returns-5
 unfolding outerWord
-returns-5 c = search (needs, choices, widen) depth 9
+returns-5 c = (if-ge _ _ _ _ (search needs) (if-ne _ _ _ _ (search needs) (if-ne _ _ _ _ (search needs) (c .group-word .ensures .0))), search (needs, widen))
 
 pub outer-word-spec : {M : Type 1} → statement M
 outer-word-spec =

@@ -1,9 +1,10 @@
--- `ie_step::outer_step::group_word` meets its contract. Assumes nothing.
+-- `ie_step::group_word` meets its contract. Assumes nothing.
 use Rattle.ie_step_spec.specs.Payload.{groupOf}
-use Rattle.octets_spec.proofs.ChoiceLaws.{choices}
+use Rattle.octets_spec.proofs.ChoiceLaws.{if-eq, if-ne, choices}
+use mathlib.Core.Path.{refl}
 use borrow.Author.Needs.{needs}
-use Rattle.ie_step.proofs.outer_step.group_word.Statement.{statement}
-use Rattle.ie_step.proofs.outer_step.group_word.Tie as tie
+use Rattle.ie_step.proofs.group_word.Statement.{statement}
+use Rattle.ie_step.proofs.group_word.Tie as tie
 
 returns : tie.Need-returns
 unfolding groupOf
@@ -21,11 +22,11 @@ add-t8 c = search needs
 
 returns-3 : tie.Need-returns-3
 unfolding groupOf
-returns-3 c = rw (← c .before .byte .ensures .0) (search (needs, choices) depth 9)
+returns-3 c = (rw (← c .before .byte .ensures .0) (if-ne _ _ _ _ (search needs) (if-eq _ _ _ _ (search needs) (if-ne _ _ _ _ (search needs) (if-eq _ _ _ _ (c .if4 .taken) refl)))), search needs)
 
 returns-4 : tie.Need-returns-4
 unfolding groupOf
-returns-4 c = rw (← c .before .byte .ensures .0) (search (needs, choices) depth 9)
+returns-4 c = (rw (← c .before .byte .ensures .0) (if-ne _ _ _ _ (search needs) (if-eq _ _ _ _ (search needs) (if-ne _ _ _ _ (search needs) (if-ne _ _ _ _ (c .if4 .left) refl)))), search needs)
 
 returns-5 : tie.Need-returns-5
 unfolding groupOf

@@ -1,9 +1,10 @@
--- `ie_step::inner_step::inner_word` meets its contract. Assumes nothing.
+-- `ie_step::inner_word` meets its contract. Assumes nothing.
 use Rattle.ie_step_spec.specs.Payload.{innerWord}
-use Rattle.octets_spec.proofs.ChoiceLaws.{choices}
+use Rattle.octets_spec.proofs.ChoiceLaws.{if-ge, if-eq, choices}
+use mathlib.Core.Path.{refl}
 use borrow.Author.Needs.{needs}
-use Rattle.ie_step.proofs.inner_step.inner_word.Statement.{statement}
-use Rattle.ie_step.proofs.inner_step.inner_word.Tie as tie
+use Rattle.ie_step.proofs.inner_word.Statement.{statement}
+use Rattle.ie_step.proofs.inner_word.Tie as tie
 
 add-from : tie.Need-add-from
 add-from c = search needs
@@ -20,7 +21,7 @@ add-t10 c = search needs
 
 returns-2 : tie.Need-returns-2
 unfolding innerWord
-returns-2 c = search (needs, choices) depth 9
+returns-2 c = (if-eq _ _ _ _ (search needs) (if-ge _ _ _ _ (search needs) refl), search needs)
 
 sub-if3 : tie.Need-sub-if3
 sub-if3 c = search needs

@@ -1,9 +1,10 @@
--- `ie_step::header_step::header_word` meets its contract. Assumes nothing.
+-- `ie_step::header_word` meets its contract. Assumes nothing.
 use Rattle.ie_step_spec.specs.Header.{headerWord}
-use Rattle.octets_spec.proofs.ChoiceLaws.{choices}
+use Rattle.octets_spec.proofs.ChoiceLaws.{if-ge, if-eq, if-ne, choices}
+use mathlib.Core.Path.{refl}
 use borrow.Author.Needs.{needs}
-use Rattle.ie_step.proofs.header_step.header_word.Statement.{statement}
-use Rattle.ie_step.proofs.header_step.header_word.Tie as tie
+use Rattle.ie_step.proofs.header_word.Statement.{statement}
+use Rattle.ie_step.proofs.header_word.Tie as tie
 
 add-from : tie.Need-add-from
 add-from c = search needs
@@ -21,7 +22,7 @@ returns-2 c = search (needs, choices) depth 9
 
 returns-3 : tie.Need-returns-3
 unfolding headerWord
-returns-3 c = search (needs, choices) depth 9
+returns-3 c = (if-ge _ _ _ _ (search needs) (if-ne _ _ _ _ (search needs) (if-eq _ _ _ _ (search needs) (if-eq _ _ _ _ (search needs) refl))), search needs)
 
 returns-4 : tie.Need-returns-4
 unfolding headerWord
