@@ -11,7 +11,7 @@ use Rattle.nbr_metric_spec.specs.declared.Place.{Place}
 use Rattle.nbr_metric_spec.specs.Metric.{blank, eligible, pathCost}
 use Rattle.nbr_metric_spec.proofs.MetricLaws.{eligible-used}
 use Rattle.nbr_table_spec.specs.Places.{best, changeFirst, free, known, named, nonzero, some, twice, unfit}
-use Rattle.nbr_table_spec.proofs.PlaceLaws.{clash, fit-limits, free-not, neither, split, unfit-used}
+use Rattle.nbr_table_spec.proofs.PlaceLaws.{clash, fit-limits, neither, split, unfit-used}
 use Rattle.nbr_table_spec.specs.declared.Parent.{Parent}
 use Rattle.nbr_table_spec.specs.declared.Parent.the-variants.{None, Held}
 use Rattle.nbr_table_spec.specs.declared.Table.{Table}
