@@ -5,8 +5,8 @@ use mathlib.Core.Path.{_≡_, refl, sym, ap, subst, _∙_}
 use mathlib.Core.Bool.{Bool, true, false, not}
 use mathlib.Core.List.{List}
 use mathlib.Core.Logic.{_⊎_, inl, inr, ⊎-elim}
-use lib.ListN.{length, replicate, set}
-use lib.Seq.{set-out}
+use lib.ListN.{getD, length, replicate, set}
+use lib.Seq.{set-getD, set-out}
 use lib.Dec.{eqb}
 use Rattle.octets_spec.specs.Choice.{ifOn}
 use Rattle.octets_spec.proofs.ChoiceLaws.{by-test, choices, if-off, if-on}
@@ -34,7 +34,7 @@ use Rattle.c_table_spec.specs.declared.TableForm.{TableForm}
 use Rattle.c_table_spec.specs.declared.TableAnswer.{TableAnswer}
 use Rattle.c_table_spec.specs.declared.EvaluationAnswer.{EvaluationAnswer}
 use Rattle.c_table_spec.specs.declared.ReplayAnswer.{ReplayAnswer}
-use Rattle.c_table_spec.specs.Table.{advertisedForm, answerForm, emptyForm, evaluatedForm, evaluationForm, evaluationRefusal, forgottenForm, formOf, isParent, isTable, outcomeForm, parentOf, refusal, refused, replayRefusal, replayedForm, reportedForm, storedForm, tableOf}
+use Rattle.c_table_spec.specs.Table.{advertisedForm, answerForm, emptyForm, evaluatedForm, evaluationForm, evaluationRefusal, forgottenForm, formOf, isParent, isTable, outcomeForm, parentOf, refusal, refused, replayRefusal, replayedForm, reportedForm, storedForm, tableOf, withStored}
 use Rattle.c_table_spec.specs.Claims.{formEvaluations, noneRefusedInC}
 use Rattle.c_table_spec.proofs.FormLaws.{tables-are-forms}
 use Rattle.c_table_spec.proofs.Agree.{accepted, none-refused-in-c}
@@ -85,10 +85,6 @@ module _ (form : TableForm) (x : Bool) (e : x ≡ refused form) where
         if-on (answerForm a) (refusal form) (isTable form) t (ap refusal (sym (tables-are-forms form t)) ∙ ap answerForm (sym (h b))))
         (λ t. if-off (answerForm a) (refusal form) (isTable form) t refl)
 
-    pub store-refused-form : (c : Change) (q : Parent) → refusal form ≡ storedForm form c q
-    unfolding storedForm
-    store-refused-form c q = given-back (stored (tableOf form) c q) (λ b. sym (store-refused (tableOf form) c q true (sym b) refl))
-
     pub evaluate-refused : evaluationRefusal form ≡ evaluatedForm form
     unfolding evaluatedForm refused
     evaluate-refused =
@@ -110,17 +106,6 @@ module _ (form : TableForm) (x : Bool) (e : x ≡ refused form) where
     fine : broken (tableOf form) ≡ false
     fine = accepted form (sym e ∙ u) .1
 
-    module _ (c : Change) (q : Parent) (held : Bool) (left : ℕ) (m : held ≡ markOf q) (n : left ≡ idOf q) where
-      pub store-place-form : _≡_ {A = TableAnswer} (record { number = c .number; table = record { places = set (form .places) (c .at) (c .place); held = held; parent = left } }) (storedForm form c q)
-      unfolding storedForm
-      store-place-form =
-          if-on (answerForm (stored (tableOf form) c q)) (refusal form) (isTable form) is
-          ((λ i. record { number = c .number; table = record { places = set (form .places) (c .at) (c .place); held = m i; parent = n i } }) ∙ ap answerForm (store-place (tableOf form) c q (broken (tableOf form)) refl fine))
-
-      pub store-nothing-form : length (form .places) ≡ 32 → 32 ≤ c .at → _≡_ {A = TableAnswer} (record { number = c .number; table = record { places = form .places; held = held; parent = left } }) (storedForm form c q)
-      store-nothing-form l h =
-          ap (λ (ps : List Place). record { number = c .number; table = record { places = ps; held = held; parent = left } }) (sym (set-out (form .places) (c .at) (c .place) (omega arith))) ∙ store-place-form
-
     pub evaluate-done : (q : Parent) (w : Settlement) (same held : Bool) (left : ℕ) → q ≡ parentOf (form .held) (form .parent) → w ≡ settlement (form .places) q → same ≡ sameParent q (w .choice .parent) → held ≡ markOf (w .choice .parent) → left ≡ idOf (w .choice .parent)
         → _≡_ {A = EvaluationAnswer} (record { number = 0; changed = not same; rank = w .choice .rank; held = held; parent = left; table = record { places = form .places; held = held; parent = left } }) (evaluatedForm form)
     unfolding evaluatedForm
@@ -132,6 +117,30 @@ module _ (form : TableForm) (x : Bool) (e : x ≡ refused form) where
         let y = evaluated-done (tableOf form) (broken (tableOf form)) refl c (withParent (tableOf form) (c .parent)) fine f₂ refl in
         if-on (evaluationForm (tableOf form) (evaluated (tableOf form))) (evaluationRefusal form) (isTable form) is
         ((λ i. record { number = 0; changed = not (s₂ i); rank = c .rank; held = m i; parent = n i; table = record { places = form .places; held = m i; parent = n i } }) ∙ ap (evaluationForm (tableOf form)) y)
+
+-- ---- a change is stored
+module _ (ps : List Place) (held : Bool) (parent : ℕ) (c : Change) (q : Parent) (x : Bool) (e : x ≡ refused (record { places = ps; held = held; parent = parent })) where
+  abbrev form : TableForm
+  form = record { places = ps; held = held; parent = parent }
+
+  pub outcome-refused : (p : Place) → x ≡ true → p ≡ getD ps 0 blank → withStored ps (record { number = 8; at = 0; place = p; held = held; parent = parent }) ≡ storedForm form c q
+  unfolding storedForm
+  outcome-refused p u f =
+      ap (λ (l : List Place). refusal (record { places = l; held = held; parent = parent })) (ap (set ps 0) f ∙ set-getD ps 0 blank)
+      ∙ given-back form x e u (stored (tableOf form) c q) (λ b. sym (store-refused (tableOf form) c q true (sym b) refl))
+
+  module _ (mark : Bool) (left : ℕ) (u : x ≡ false) (m : mark ≡ markOf q) (n : left ≡ idOf q) where
+    pub outcome-stored : withStored ps (record { number = c .number; at = c .at; place = c .place; held = mark; parent = left }) ≡ storedForm form c q
+    unfolding storedForm
+    outcome-stored =
+        let a = accepted form (sym e ∙ u) in
+        if-on (answerForm (stored (tableOf form) c q)) (refusal form) (isTable form) (a .0)
+        ((λ i. record { number = c .number; table = record { places = set ps (c .at) (c .place); held = m i; parent = n i } }) ∙ ap answerForm (store-place (tableOf form) c q (broken (tableOf form)) refl (a .1)))
+
+    pub outcome-nothing : (p : Place) → length ps ≡ 32 → 32 ≤ c .at → p ≡ getD ps 0 blank → withStored ps (record { number = c .number; at = 0; place = p; held = mark; parent = left }) ≡ storedForm form c q
+    outcome-nothing p l h f =
+        ap (λ (z : List Place). record { number = c .number; table = record { places = z; held = mark; parent = left } })
+        (ap (set ps 0) f ∙ set-getD ps 0 blank ∙ sym (set-out ps (c .at) (c .place) (omega arith))) ∙ outcome-stored
 
 module _ (form : TableForm) (id : ℕ) (c : Change) (l : length (form .places) ≡ 32) (r : TableAnswer) where
   by-answer : (q : Parent) (a : Answer) → r ≡ storedForm form c q → stored (tableOf form) c q ≡ a → r ≡ ifOn (isTable form) (answerForm a) (refusal form)
@@ -192,7 +201,7 @@ module _ (form : TableForm) (l : Log) where
       ),
     )
 
-pub ruleset formWays = (parent-held, parent-none, is-held, is-none, refused-stray, refused-broken, length-mapped, store-refused-form, store-place-form, store-nothing-form)
+pub ruleset formWays = (parent-held, parent-none, is-held, is-none, refused-stray, refused-broken, length-mapped, outcome-refused, outcome-stored, outcome-nothing)
 
 pub ruleset replayWays = (replay-stray, replay-done)
 
