@@ -2,7 +2,7 @@
 use Prim.Native.Nat.{ℕ, _+_, _-_, _<_, _≤_, _^_}
 use native.Mathlib.Omega.{arith}
 use mathlib.Core.Path.{_≡_, refl, sym, ap, subst, _∙_}
-use mathlib.Core.Bool.{Bool, true, false, cond, _&&_}
+use mathlib.Core.Bool.{false, cond, _&&_}
 use mathlib.Core.List.{List}
 use mathlib.Core.Logic.{⊎-elim}
 use lib.ListN.{length}
@@ -124,23 +124,17 @@ module _ (ps : List Place) (q : Parent) (kind n value flag : ℕ) (b : broken (r
 pub rises-later : (n r d c l : ℕ) → (n ≡ 0 → ⊥) → d ≡ c - l → r + d ≡ ifEq n 0 0 (r + (c - l))
 rises-later n r d c l h e = let k : r + d ≡ r + (c - l) = omega arith in search choices
 
-pub eligible-more : (a x : Bool) → a ≡ true → x ≡ (a && x)
-eligible-more a x u = rw u
-
-pub eligible-less : (a x : Bool) → a ≡ false → false ≡ (a && x)
-eligible-less a x u = rw u
-
 module _ (s : Counts) (v : Visit) (kind : ℕ) where
   pub counted-quiet : kind < 3 → s ≡ counted kind s v
   unfolding counted
   counted-quiet h = search choices
 
-  pub counted-noted : (r f : ℕ) (x : Bool) → 3 ≤ kind → r ≡ ifEq (s .evaluations) 0 0 (s .rises + (v .entry - s .last)) → f ≡ ifEq (s .evaluations) 0 (v .entry) (s .first) → x ≡ (s .applies && v .eligible)
-      → _≡_ {A = Counts} (record { evaluations = s .evaluations + 1; changes = s .changes + v .change; rises = r; first = f; last = v .exit; applies = x }) (counted kind s v)
+  pub counted-noted : (r f : ℕ) → 3 ≤ kind → r ≡ ifEq (s .evaluations) 0 0 (s .rises + (v .entry - s .last)) → f ≡ ifEq (s .evaluations) 0 (v .entry) (s .first)
+      → _≡_ {A = Counts} (record { evaluations = s .evaluations + 1; changes = s .changes + v .change; rises = r; first = f; last = v .exit; applies = s .applies && v .eligible }) (counted kind s v)
   unfolding counted noted
-  counted-noted r f x h e₁ e₂ e₃ =
-      let z : _≡_ {A = Counts} (record { evaluations = s .evaluations + 1; changes = s .changes + v .change; rises = r; first = f; last = v .exit; applies = x }) (noted s v) =
-      λ i. record { evaluations = s .evaluations + 1; changes = s .changes + v .change; rises = e₁ i; first = e₂ i; last = v .exit; applies = e₃ i } in
+  counted-noted r f h e₁ e₂ =
+      let z : _≡_ {A = Counts} (record { evaluations = s .evaluations + 1; changes = s .changes + v .change; rises = r; first = f; last = v .exit; applies = s .applies && v .eligible }) (noted s v) =
+      λ i. record { evaluations = s .evaluations + 1; changes = s .changes + v .change; rises = e₁ i; first = e₂ i; last = v .exit; applies = s .applies && v .eligible } in
       search choices
 
 pub same-counts : (s : Counts) → OneMore s s
@@ -148,4 +142,4 @@ same-counts s = record { evaluations = omega arith; changes = omega arith; rises
 
 pub ruleset stepWays = (step-advertise, step-report, step-forget, step-evaluate)
 
-pub ruleset countWays = (rises-later, eligible-more, eligible-less, counted-quiet, counted-noted, same-counts, choices)
+pub ruleset countWays = (rises-later, counted-quiet, counted-noted, same-counts, choices)

@@ -4,12 +4,12 @@ use Prim.Native.Nat.{ℕ, zero, suc, _+_, _-_, _<_, _≤_}
 use native.Mathlib.Numerals.{add-one}
 use native.Mathlib.Omega.{arith}
 use mathlib.Core.Path.{_≡_, refl, sym, ap, subst, _∙_}
-use mathlib.Core.Bool.{Bool, true, false, cond, _&&_, _||_}
+use mathlib.Core.Bool.{Bool, true, false, cond, not, _&&_, _||_}
 use mathlib.Core.List.{List, [], _∷_, map}
 use lib.ListN.{length, getD, drop, set, length-map, drop-of-length-le}
 use lib.Seq.{drop-cons}
 use lib.Dec.{ltb, eqb}
-use borrow.Author.Tests.{lt-ltb, le-ltb, ltb-false}
+use borrow.Author.Tests.{ltb-false}
 use Rattle.octets_spec.specs.Choice.{ifOn}
 use Rattle.octets_spec.proofs.ChoiceLaws.{by-test, choices}
 use Rattle.nbr_metric_spec.specs.declared.Place.{Place}
@@ -32,38 +32,13 @@ module _ (p : Place) where
   unfolding named
   named-free n u = rw u
 
-  pub nonzero-id : 0 < p .id → true ≡ nonzero p
+  pub nonzero-is : (ltb 0 (p .id) || (ltb 0 (p .rank) || (ltb 0 (p .attempts) || ltb 0 (p .acked)))) ≡ nonzero p
   unfolding nonzero
-  nonzero-id h = simp (lt-ltb 0 (p .id) h)
+  nonzero-is = refl
 
-  pub nonzero-rank : p .id ≤ 0 → 0 < p .rank → true ≡ nonzero p
-  unfolding nonzero
-  nonzero-rank i h = simp (le-ltb 0 (p .id) i, lt-ltb 0 (p .rank) h)
-
-  pub nonzero-attempts : p .id ≤ 0 → p .rank ≤ 0 → 0 < p .attempts → true ≡ nonzero p
-  unfolding nonzero
-  nonzero-attempts i r h = simp (le-ltb 0 (p .id) i, le-ltb 0 (p .rank) r, lt-ltb 0 (p .attempts) h)
-
-  pub nonzero-acked : p .id ≤ 0 → p .rank ≤ 0 → p .attempts ≤ 0 → ltb 0 (p .acked) ≡ nonzero p
-  unfolding nonzero
-  nonzero-acked i r t = simp (le-ltb 0 (p .id) i, le-ltb 0 (p .rank) r, le-ltb 0 (p .attempts) t)
-
-  pub unfit-attempts : 255 < p .attempts → true ≡ unfit p
-  unfolding unfit
-  unfit-attempts h = simp (lt-ltb 255 (p .attempts) h)
-
-  pub unfit-acked : p .attempts ≤ 255 → p .attempts < p .acked → true ≡ unfit p
-  unfolding unfit
-  unfit-acked h k = simp (le-ltb 255 (p .attempts) h, lt-ltb (p .attempts) (p .acked) k)
-
-  module _ (h : p .attempts ≤ 255) (k : p .acked ≤ p .attempts) where
-    pub unfit-used : p .used ≡ true → false ≡ unfit p
-    unfolding unfit free
-    unfit-used u = simp (le-ltb 255 (p .attempts) h, le-ltb (p .attempts) (p .acked) k, u)
-
-    pub unfit-free : (x : Bool) → p .used ≡ false → x ≡ nonzero p → x ≡ unfit p
-    unfolding unfit free
-    unfit-free x u f = simp (le-ltb 255 (p .attempts) h, le-ltb (p .attempts) (p .acked) k, u, f)
+  pub unfit-is : (x : Bool) → x ≡ nonzero p → (ltb 255 (p .attempts) || (ltb (p .attempts) (p .acked) || (not (p .used) && x))) ≡ unfit p
+  unfolding unfit free
+  unfit-is x e = ap (λ (z : Bool). ltb 255 (p .attempts) || (ltb (p .attempts) (p .acked) || (not (p .used) && z))) e
 
 -- ---- walking the places: what is left gives what the whole gives
 module _ (f : Place → Bool) (ps : List Place) (i : ℕ) (w x : Bool) where
@@ -194,4 +169,4 @@ fit-limits p e =
 -- one set for each crate of functions over places
 pub ruleset searchWays = (named-used, named-free, first-start, named-back, free-back, found-is)
 
-pub ruleset limitWays = (nonzero-id, nonzero-rank, nonzero-attempts, nonzero-acked, unfit-attempts, unfit-acked, unfit-used, unfit-free)
+pub ruleset limitWays = (nonzero-is, unfit-is)
