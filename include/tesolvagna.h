@@ -337,7 +337,7 @@ struct tesolvagna_neighbour {
 };
 
 /*
- * The neighbours and the held parent. `tesolvagna_table_init` gives a table to start with, and each call gives back
+ * The held parent and the neighbours. `tesolvagna_table_init` gives a table to start with, and each call gives back
  * the one to go on with: `table = answer.table` is right after a refusal too.
  *
  * Every call refuses with 8, and gives back as it is, a table with attempts over 255, more acknowledged than
@@ -345,12 +345,12 @@ struct tesolvagna_neighbour {
  * them, or a `parent` that is not 0 where none is held.
  */
 struct tesolvagna_table {
-    /* The places, free or in use. */
-    struct tesolvagna_neighbour neighbours[TESOLVAGNA_NEIGHBOURS];
     /* Whether a parent is held. */
     bool has_parent;
     /* The held parent's identifier, 0 where none is held. */
     uint64_t parent;
+    /* The places, free or in use. */
+    struct tesolvagna_neighbour neighbours[TESOLVAGNA_NEIGHBOURS];
 };
 
 /* What a call gives. */

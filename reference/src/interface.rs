@@ -196,9 +196,9 @@ structs! {
 
     /// A neighbour table. The default is the empty one, all 0.
     pub struct Table ("table") {
-        pub neighbours: [Neighbour; NEIGHBOURS],
         pub has_parent: bool,
         pub parent: u64,
+        pub neighbours: [Neighbour; NEIGHBOURS],
     }
 
     pub struct TableAnswer ("table_answer") {

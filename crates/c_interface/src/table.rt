@@ -29,13 +29,9 @@ pub extern "C" fn tesolvagna_table_advertise(table: TableForm, id: u64, rank: u1
     ensures { λ r. ⌜ r ≡ advertisedForm table id rank ⌝ }
 {
     let places = table.places;
-    if c_table::is_refused(places, table.held, table.parent) {
-        return TableAnswer {
-            number: refusal::OUT_OF_LIMITS,
-            table,
-        };
-    }
-    c_table::stored(table, nbr_calls::advertise::advertising(places, id, rank))
+    let parent = c_table::parent_of(table.held, table.parent);
+    let change = nbr_calls::advertise::advertising(places, id, rank);
+    c_table::stored(places, table.held, table.parent, change, parent)
 }
 
 // Counts 1 to 4 attempts to reach a neighbour: 8 for a table that is refused and for other numbers, 10 for an unknown neighbour.
@@ -49,16 +45,9 @@ pub extern "C" fn tesolvagna_table_report(
     ensures { λ r. ⌜ r ≡ reportedForm table id attempts acked ⌝ }
 {
     let places = table.places;
-    if c_table::is_refused(places, table.held, table.parent) {
-        return TableAnswer {
-            number: refusal::OUT_OF_LIMITS,
-            table,
-        };
-    }
-    c_table::stored(
-        table,
-        nbr_calls::report::reporting(places, id, attempts, acked),
-    )
+    let parent = c_table::parent_of(table.held, table.parent);
+    let change = nbr_calls::report::reporting(places, id, attempts, acked);
+    c_table::stored(places, table.held, table.parent, change, parent)
 }
 
 // Removes a neighbour: 8 for a table that is refused, 10 for an unknown neighbour.
@@ -67,21 +56,10 @@ pub extern "C" fn tesolvagna_table_forget(table: TableForm, id: u64) -> TableAns
     ensures { λ r. ⌜ r ≡ forgottenForm table id ⌝ }
 {
     let places = table.places;
-    if c_table::is_refused(places, table.held, table.parent) {
-        return TableAnswer {
-            number: refusal::OUT_OF_LIMITS,
-            table,
-        };
-    }
-    let answer = c_table::stored(table, nbr_calls::forget::forgetting(places, id));
-    let left = nbr_calls::forget::without(c_table::parent_of(table.held, table.parent), id);
-    let mut changed = answer.table;
-    changed.held = nbr_parent::held_parent::mark_of(left);
-    changed.parent = nbr_parent::held_parent::id_of(left);
-    TableAnswer {
-        number: answer.number,
-        table: changed,
-    }
+    let parent = c_table::parent_of(table.held, table.parent);
+    let change = nbr_calls::forget::forgetting(places, id);
+    let left = nbr_calls::forget::without(parent, id);
+    c_table::stored(places, table.held, table.parent, change, left)
 }
 
 // Sets the held parent, and says the own rank, the parent and whether it changed: 8 for a table that is refused.

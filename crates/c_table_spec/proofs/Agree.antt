@@ -1,26 +1,23 @@
 -- What holds of lists of calls on tables holds of the calls that C makes. Assumes nothing.
-use Prim.Native.Nat.{ℕ, _+_, _*_, _≤_}
-use native.Mathlib.Omega.{arith}
+use Prim.Native.Nat.{ℕ, _+_}
 use mathlib.Core.Path.{_≡_, refl, sym, ap, ap₂, subst, _∙_}
-use mathlib.Core.Bool.{Bool, true, false, cond, not, _&&_, _||_}
-use mathlib.Core.List.{List, [], _∷_, map}
+use mathlib.Core.Bool.{Bool, true, false, cond, not, _&&_}
+use mathlib.Core.List.{List, [], _∷_}
 use lib.Dec.{eqb, ltb}
-use borrow.Author.Tests.{eq-eqb, not-true, not-false}
+use borrow.Author.Tests.{not-true, not-false}
 use Rattle.octets_spec.specs.Choice.{ifOn, ifLt}
-use Rattle.octets_spec.proofs.ChoiceLaws.{by-test, if-off, if-on}
+use Rattle.octets_spec.proofs.ChoiceLaws.{by-test}
 use Rattle.nbr_metric_spec.proofs.MetricLaws.{both}
-use Rattle.nbr_table_spec.proofs.PlaceLaws.{clash, neither}
+use Rattle.nbr_table_spec.proofs.PlaceLaws.{neither}
 use Rattle.nbr_table_spec.specs.Places.{known, some, free}
-use Rattle.nbr_table_spec.specs.declared.Answer.{Answer}
-use Rattle.nbr_table_spec.specs.declared.Evaluation.{Evaluation}
 use Rattle.nbr_table_spec.specs.declared.Table.{Table}
 use Rattle.nbr_table_spec.specs.Calls.{advertised, broken, evaluated, forgotten, reported, sameParent}
-use Rattle.nbr_stability_spec.specs.Stability.{Call, EntryExit, after, any, applies, changes, eachEligible, evaluations, firstCost, lastCost, noneRefused, rises}
+use Rattle.nbr_stability_spec.specs.Stability.{Call, EntryExit, after, any, applies, changes, eachEligible, evaluations, noneRefused}
 use Rattle.nbr_stability_spec.specs.Stability.Call.{Advertise, Report, Forget, Evaluate}
 use Rattle.nbr_stability_spec.proofs.Bound.{at-most-101-changes, none-refused, parents-do-not-flap}
 use Rattle.c_table_spec.specs.declared.TableForm.{TableForm}
 use Rattle.c_table_spec.specs.Table.{advertisedForm, evaluatedForm, forgottenForm, formOf, isTable, refused, reportedForm, tableOf}
-use Rattle.c_table_spec.specs.Claims.{AtMost101ChangesInC, CallsAgree, ChangesAreFlagged, EvaluationsAgree, FormEntryExit, NoneRefusedInC, ParentsDoNotFlapInC, RefusalsChangeNothing, appliesInC, asTable, asTables, flagged, formAfter, formEvaluations, noneRefusedInC, numberAfter}
+use Rattle.c_table_spec.specs.Claims.{AtMost101ChangesInC, CallsAgree, ChangesAreFlagged, EvaluationsAgree, NoneRefusedInC, ParentsDoNotFlapInC, RefusalsChangeNothing, appliesInC, asTables, flagged, formAfter, formEvaluations, noneRefusedInC, numberAfter}
 use Rattle.c_table_spec.proofs.FormLaws.{forms-are-tables, tables-are-forms}
 
 -- ---- one call of the rules that is refused gives back its table

@@ -1,12 +1,12 @@
 -- The laws of the exported calls: each way out, as the code meets it (the rulesets at the end). Assumes nothing.
 use Prim.Native.Nat.{ℕ, _*_, _+_, _≤_}
 use native.Mathlib.Omega.{arith}
-use mathlib.Core.Path.{_≡_, refl, sym, ap, ap₂, subst, _∙_}
-use mathlib.Core.Bool.{Bool, true, false, not, _||_}
+use mathlib.Core.Path.{_≡_, refl, sym, ap, subst, _∙_}
+use mathlib.Core.Bool.{Bool, true, false, not}
 use mathlib.Core.List.{List}
 use mathlib.Core.Logic.{_⊎_, inl, inr, ⊎-elim}
-use lib.ListN.{length, replicate, set}
-use lib.Seq.{set-out}
+use lib.ListN.{getD, length, replicate, set}
+use lib.Seq.{set-getD, set-out}
 use lib.Dec.{eqb}
 use Rattle.octets_spec.specs.Choice.{ifOn}
 use Rattle.octets_spec.proofs.ChoiceLaws.{by-test, choices, if-off, if-on}
@@ -16,29 +16,27 @@ use Rattle.nbr_table_spec.specs.Places.{best}
 use Rattle.nbr_table_spec.specs.declared.Answer.{Answer}
 use Rattle.nbr_table_spec.specs.declared.Change.{Change}
 use Rattle.nbr_table_spec.specs.declared.Choice.{Choice}
-use Rattle.nbr_table_spec.specs.declared.Evaluation.{Evaluation}
 use Rattle.nbr_table_spec.specs.declared.Parent.{Parent}
 use Rattle.nbr_table_spec.specs.declared.Parent.the-variants.{None, Held}
 use Rattle.nbr_table_spec.specs.declared.Settlement.{Settlement}
-use Rattle.nbr_table_spec.specs.declared.Table.{Table}
-use Rattle.nbr_table_spec.specs.Calls.{advertised, answer, broken, chosen, evaluated, evaluation, forgotten, heldPlace, idOf, markOf, reported, sameParent, settled, withParent, withPlaces, without}
+use Rattle.nbr_table_spec.specs.Calls.{answer, broken, chosen, evaluated, heldPlace, idOf, markOf, sameParent, withParent, without}
 use Rattle.nbr_table_spec.specs.Offers.{settlement}
-use Rattle.nbr_table_spec.specs.Stores.{advertising, forgetting, reporting}
+use Rattle.nbr_table_spec.specs.Stores.{advertising, forgetting, reporting, stored}
 use Rattle.nbr_table_spec.proofs.PlaceLaws.{clash, length-mapped}
-use Rattle.nbr_table_spec.proofs.CallLaws.{advertised-broken, evaluated-broken, evaluated-done, forgotten-broken, reported-broken}
-use Rattle.nbr_table_spec.proofs.StoreLaws.{advertised-by, forgotten-by, reported-by}
+use Rattle.nbr_table_spec.proofs.CallLaws.{evaluated-broken, evaluated-done}
+use Rattle.nbr_table_spec.proofs.StoreLaws.{advertise-done, forget-done, report-done, store-place, store-refused}
 use Rattle.nbr_stability_spec.proofs.Bound.{same-self}
 use Rattle.nbr_replay_spec.specs.declared.Outcome.{Outcome}
-use Rattle.nbr_replay_spec.specs.Log.{Log, calls, unfitLog}
+use Rattle.nbr_replay_spec.specs.Log.{Log, calls}
 use Rattle.nbr_replay_spec.specs.Replay.{replayed}
 use Rattle.nbr_replay_spec.proofs.ReplayLaws.{replay-bound, replay-few, replay-is}
 use Rattle.c_table_spec.specs.declared.TableForm.{TableForm}
 use Rattle.c_table_spec.specs.declared.TableAnswer.{TableAnswer}
 use Rattle.c_table_spec.specs.declared.EvaluationAnswer.{EvaluationAnswer}
 use Rattle.c_table_spec.specs.declared.ReplayAnswer.{ReplayAnswer}
-use Rattle.c_table_spec.specs.Table.{advertisedForm, answerForm, emptyForm, evaluatedForm, evaluationForm, evaluationRefusal, forgottenForm, formOf, isParent, isTable, outcomeForm, parentOf, refusal, refused, replayRefusal, replayedForm, reportedForm, storedForm, tableOf}
+use Rattle.c_table_spec.specs.Table.{advertisedForm, answerForm, emptyForm, evaluatedForm, evaluationForm, evaluationRefusal, forgottenForm, formOf, isParent, isTable, outcomeForm, parentOf, refusal, refused, replayRefusal, replayedForm, reportedForm, storedForm, tableOf, withStored}
 use Rattle.c_table_spec.specs.Claims.{formEvaluations, noneRefusedInC}
-use Rattle.c_table_spec.proofs.FormLaws.{id-back, mark-back, tables-are-forms}
+use Rattle.c_table_spec.proofs.FormLaws.{tables-are-forms}
 use Rattle.c_table_spec.proofs.Agree.{accepted, none-refused-in-c}
 
 -- ---- the held parent
@@ -69,11 +67,6 @@ module _ (form : TableForm) where
     unfolding refused
     refused-broken y q u f g = rw (← e, u) (g ∙ ap (λ (p : Parent). broken (record { places = form .places; parent = p })) f)
 
--- nothing is stored past the end
-pub stored-out : (form : TableForm) (c : Change) → length (form .places) ≡ 32 → 32 ≤ c .at → _≡_ {A = TableAnswer} (record { number = c .number; table = form }) (storedForm form c)
-stored-out form c l h =
-    ap (λ (ps : List Place). record { number = c .number; table = record { places = ps; held = form .held; parent = form .parent } }) (sym (set-out (form .places) (c .at) (c .place) (omega arith)))
-
 -- the table without neighbours
 pub empty-form : (b : Place) → b ≡ blank → _≡_ {A = TableForm} (record { places = replicate 32 b; held = false; parent = 0 }) emptyForm
 unfolding markOf idOf
@@ -91,18 +84,6 @@ module _ (form : TableForm) (x : Bool) (e : x ≡ refused form) where
         let b : broken (tableOf form) ≡ true = rw t at (sym e ∙ u) in
         if-on (answerForm a) (refusal form) (isTable form) t (ap refusal (sym (tables-are-forms form t)) ∙ ap answerForm (sym (h b))))
         (λ t. if-off (answerForm a) (refusal form) (isTable form) t refl)
-
-    pub advertise-refused : (id rank : ℕ) → refusal form ≡ advertisedForm form id rank
-    unfolding advertisedForm
-    advertise-refused id rank = given-back (advertised (tableOf form) id rank) (λ b. sym (advertised-broken (tableOf form) id true (sym b) refl rank))
-
-    pub report-refused : (id attempts : ℕ) (acked : Bool) → refusal form ≡ reportedForm form id attempts acked
-    unfolding reportedForm
-    report-refused id attempts acked = given-back (reported (tableOf form) id attempts acked) (λ b. sym (reported-broken (tableOf form) id true (sym b) refl attempts acked))
-
-    pub forget-refused : (id : ℕ) → refusal form ≡ forgottenForm form id
-    unfolding forgottenForm
-    forget-refused id = given-back (forgotten (tableOf form) id) (λ b. sym (forgotten-broken (tableOf form) id true (sym b) refl))
 
     pub evaluate-refused : evaluationRefusal form ≡ evaluatedForm form
     unfolding evaluatedForm refused
@@ -125,34 +106,6 @@ module _ (form : TableForm) (x : Bool) (e : x ≡ refused form) where
     fine : broken (tableOf form) ≡ false
     fine = accepted form (sym e ∙ u) .1
 
-    -- the held parent is given back as it was
-    same-parent : (number : ℕ) (ps : List Place) → _≡_ {A = TableAnswer} (record { number = number; table = record { places = ps; held = form .held; parent = form .parent } }) (answerForm (answer number (withPlaces (tableOf form) ps)))
-    same-parent number ps = ap (λ (f : TableForm). record { number = number; table = record { places = ps; held = f .held; parent = f .parent } }) (sym (tables-are-forms form is))
-
-    module _ (l : length (form .places) ≡ 32) (id : ℕ) (c : Change) where
-      module _ (r : TableAnswer) (s : r ≡ storedForm form c) where
-        by-answer : (a : Answer) → answer (c .number) (withPlaces (tableOf form) (set (form .places) (c .at) (c .place))) ≡ a → r ≡ ifOn (isTable form) (answerForm a) (refusal form)
-        by-answer a h = if-on (answerForm a) (refusal form) (isTable form) is (s ∙ same-parent (c .number) (set (form .places) (c .at) (c .place)) ∙ ap answerForm h)
-
-        pub advertise-done : (rank : ℕ) → c ≡ advertising (form .places) id rank → r ≡ advertisedForm form id rank
-        unfolding advertisedForm
-        advertise-done rank f = by-answer (advertised (tableOf form) id rank) (advertised-by (tableOf form) fine l id c _ rank f refl)
-
-        pub report-done : (attempts : ℕ) (acked : Bool) → c ≡ reporting (form .places) id attempts acked → r ≡ reportedForm form id attempts acked
-        unfolding reportedForm
-        report-done attempts acked f = by-answer (reported (tableOf form) id attempts acked) (reported-by (tableOf form) fine l id c _ attempts acked f refl)
-
-      pub forget-done : (q p : Parent) (held : Bool) (left : ℕ) (s : TableAnswer) → c ≡ forgetting (form .places) id → s ≡ storedForm form c → q ≡ parentOf (form .held) (form .parent) → p ≡ without id q → held ≡ markOf p → left ≡ idOf p
-          → _≡_ {A = TableAnswer} (record { number = s .number; table = record { places = s .table .places; held = held; parent = left } }) (forgottenForm form id)
-      unfolding forgottenForm
-      forget-done q p held left s f k g h m n =
-          let w : p ≡ without id (tableOf form .parent) = h ∙ ap (without id) g in
-          let y = forgotten-by (tableOf form) fine l id c _ (without id (tableOf form .parent)) _ f refl refl refl in
-          if-on (answerForm (forgotten (tableOf form) id)) (refusal form) (isTable form) is
-          (ap₂ (λ (a : Bool) (b : ℕ). record { number = s .number; table = record { places = s .table .places; held = a; parent = b } }) (m ∙ ap markOf w) (n ∙ ap idOf w)
-          ∙ ap (λ (z : TableAnswer). record { number = z .number; table = record { places = z .table .places; held = markOf (without id (tableOf form .parent)); parent = idOf (without id (tableOf form .parent)) } }) k
-          ∙ ap answerForm y)
-
     pub evaluate-done : (q : Parent) (w : Settlement) (same held : Bool) (left : ℕ) → q ≡ parentOf (form .held) (form .parent) → w ≡ settlement (form .places) q → same ≡ sameParent q (w .choice .parent) → held ≡ markOf (w .choice .parent) → left ≡ idOf (w .choice .parent)
         → _≡_ {A = EvaluationAnswer} (record { number = 0; changed = not same; rank = w .choice .rank; held = held; parent = left; table = record { places = form .places; held = held; parent = left } }) (evaluatedForm form)
     unfolding evaluatedForm
@@ -164,6 +117,48 @@ module _ (form : TableForm) (x : Bool) (e : x ≡ refused form) where
         let y = evaluated-done (tableOf form) (broken (tableOf form)) refl c (withParent (tableOf form) (c .parent)) fine f₂ refl in
         if-on (evaluationForm (tableOf form) (evaluated (tableOf form))) (evaluationRefusal form) (isTable form) is
         ((λ i. record { number = 0; changed = not (s₂ i); rank = c .rank; held = m i; parent = n i; table = record { places = form .places; held = m i; parent = n i } }) ∙ ap (evaluationForm (tableOf form)) y)
+
+-- ---- a change is stored
+module _ (ps : List Place) (held : Bool) (parent : ℕ) (c : Change) (q : Parent) (x : Bool) (e : x ≡ refused (record { places = ps; held = held; parent = parent })) where
+  abbrev form : TableForm
+  form = record { places = ps; held = held; parent = parent }
+
+  pub outcome-refused : (p : Place) → x ≡ true → p ≡ getD ps 0 blank → withStored ps (record { number = 8; at = 0; place = p; held = held; parent = parent }) ≡ storedForm form c q
+  unfolding storedForm
+  outcome-refused p u f =
+      ap (λ (l : List Place). refusal (record { places = l; held = held; parent = parent })) (ap (set ps 0) f ∙ set-getD ps 0 blank)
+      ∙ given-back form x e u (stored (tableOf form) c q) (λ b. sym (store-refused (tableOf form) c q true (sym b) refl))
+
+  module _ (mark : Bool) (left : ℕ) (u : x ≡ false) (m : mark ≡ markOf q) (n : left ≡ idOf q) where
+    pub outcome-stored : withStored ps (record { number = c .number; at = c .at; place = c .place; held = mark; parent = left }) ≡ storedForm form c q
+    unfolding storedForm
+    outcome-stored =
+        let a = accepted form (sym e ∙ u) in
+        if-on (answerForm (stored (tableOf form) c q)) (refusal form) (isTable form) (a .0)
+        ((λ i. record { number = c .number; table = record { places = set ps (c .at) (c .place); held = m i; parent = n i } }) ∙ ap answerForm (store-place (tableOf form) c q (broken (tableOf form)) refl (a .1)))
+
+    pub outcome-nothing : (p : Place) → length ps ≡ 32 → 32 ≤ c .at → p ≡ getD ps 0 blank → withStored ps (record { number = c .number; at = 0; place = p; held = mark; parent = left }) ≡ storedForm form c q
+    outcome-nothing p l h f =
+        ap (λ (z : List Place). record { number = c .number; table = record { places = z; held = mark; parent = left } })
+        (ap (set ps 0) f ∙ set-getD ps 0 blank ∙ sym (set-out ps (c .at) (c .place) (omega arith))) ∙ outcome-stored
+
+module _ (form : TableForm) (id : ℕ) (c : Change) (l : length (form .places) ≡ 32) (r : TableAnswer) where
+  by-answer : (q : Parent) (a : Answer) → r ≡ storedForm form c q → stored (tableOf form) c q ≡ a → r ≡ ifOn (isTable form) (answerForm a) (refusal form)
+  unfolding storedForm
+  by-answer q a s e = s ∙ ap (λ (z : Answer). ifOn (isTable form) (answerForm z) (refusal form)) e
+
+  module _ (q : Parent) (g : q ≡ parentOf (form .held) (form .parent)) where
+    pub advertise-form : (rank : ℕ) → c ≡ advertising (form .places) id rank → r ≡ storedForm form c q → r ≡ advertisedForm form id rank
+    unfolding advertisedForm
+    advertise-form rank e s = by-answer q _ s (advertise-done (tableOf form) id c l _ rank e (ap (stored (tableOf form) c) g))
+
+    pub report-form : (attempts : ℕ) (acked : Bool) → c ≡ reporting (form .places) id attempts acked → r ≡ storedForm form c q → r ≡ reportedForm form id attempts acked
+    unfolding reportedForm
+    report-form attempts acked e s = by-answer q _ s (report-done (tableOf form) id c l _ attempts acked e (ap (stored (tableOf form) c) g))
+
+    pub forget-form : (p : Parent) → c ≡ forgetting (form .places) id → p ≡ without id q → r ≡ storedForm form c p → r ≡ forgottenForm form id
+    unfolding forgottenForm
+    forget-form p e h s = by-answer p _ s (forget-done (tableOf form) id c l _ p e (h ∙ ap (without id) g) refl)
 
 -- ---- the replay
 module _ (form : TableForm) (l : Log) where
@@ -206,8 +201,8 @@ module _ (form : TableForm) (l : Log) where
       ),
     )
 
-pub ruleset formWays = (parent-held, parent-none, is-held, is-none, refused-stray, refused-broken, length-mapped, stored-out)
+pub ruleset formWays = (parent-held, parent-none, is-held, is-none, refused-stray, refused-broken, length-mapped, outcome-refused, outcome-stored, outcome-nothing)
 
 pub ruleset replayWays = (replay-stray, replay-done)
 
-pub ruleset callWays = (length-mapped, empty-form, advertise-refused, report-refused, forget-refused, evaluate-refused, advertise-done, report-done, forget-done, evaluate-done)
+pub ruleset callWays = (length-mapped, empty-form, evaluate-refused, advertise-form, report-form, forget-form, evaluate-done)

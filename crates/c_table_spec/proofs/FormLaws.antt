@@ -1,16 +1,12 @@
 -- The C form of a table and the table are inverses of each other. Assumes nothing.
 use Prim.Native.Nat.{ℕ}
-use mathlib.Core.Path.{_≡_, refl, sym, ap, _∙_}
-use mathlib.Core.Bool.{Bool, true, false, _||_}
-use lib.Dec.{eqb}
+use mathlib.Core.Path.{_≡_, refl, sym, ap}
+use mathlib.Core.Bool.{Bool, true, false}
 use borrow.Author.Tests.{eqb-true}
-use Rattle.nbr_table_spec.proofs.PlaceLaws.{clash}
 use Rattle.nbr_table_spec.specs.declared.Parent.{Parent}
 use Rattle.nbr_table_spec.specs.declared.Parent.the-variants.{None, Held}
-use Rattle.nbr_table_spec.specs.declared.Table.{Table}
 use Rattle.nbr_table_spec.specs.Calls.{idOf, markOf}
-use Rattle.c_table_spec.specs.declared.TableForm.{TableForm}
-use Rattle.c_table_spec.specs.Table.{formOf, isParent, parentOf, tableOf}
+use Rattle.c_table_spec.specs.Table.{isParent, parentOf}
 use Rattle.c_table_spec.specs.Claims.{FormsAreTables, TablesAreForms}
 
 -- ---- the held parent

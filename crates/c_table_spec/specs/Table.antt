@@ -2,10 +2,12 @@
 -- mark and an identifier, which is 0 where the mark is off. Assumes nothing.
 use Prim.Native.Nat.{ℕ}
 use mathlib.Core.Bool.{Bool, true, false, not, _||_}
+use mathlib.Core.List.{List}
 use lib.ListN.{set}
 use lib.Dec.{eqb}
 use Rattle.octets_spec.specs.Choice.{ifOn}
 use Rattle.refusal.specs.Refusal.{outOfLimits}
+use Rattle.nbr_metric_spec.specs.declared.Place.{Place}
 use Rattle.nbr_table_spec.specs.declared.Parent.{Parent}
 use Rattle.nbr_table_spec.specs.declared.Parent.the-variants.{None, Held}
 use Rattle.nbr_table_spec.specs.declared.Table.{Table}
@@ -13,9 +15,11 @@ use Rattle.nbr_table_spec.specs.declared.Answer.{Answer}
 use Rattle.nbr_table_spec.specs.declared.Change.{Change}
 use Rattle.nbr_table_spec.specs.declared.Evaluation.{Evaluation}
 use Rattle.nbr_table_spec.specs.Calls.{advertised, broken, emptyTable, evaluated, forgotten, idOf, markOf, reported, sameParent}
+use Rattle.nbr_table_spec.specs.Stores.{stored}
 use Rattle.nbr_replay_spec.specs.declared.Outcome.{Outcome}
 use Rattle.nbr_replay_spec.specs.Log.{Log}
 use Rattle.nbr_replay_spec.specs.Replay.{replayed}
+use Rattle.c_table_spec.specs.declared.Stored.{Stored}
 use Rattle.c_table_spec.specs.declared.TableForm.{TableForm}
 use Rattle.c_table_spec.specs.declared.TableAnswer.{TableAnswer}
 use Rattle.c_table_spec.specs.declared.EvaluationAnswer.{EvaluationAnswer}
@@ -117,10 +121,14 @@ replayRefusal form =
 unfoldable pub replayedForm : TableForm → Log → ReplayAnswer
 replayedForm form log = ifOn (isTable form) (outcomeForm (replayed (tableOf form) log)) (replayRefusal form)
 
--- ---- how the code goes: one place of the C form is replaced, past the end none
-abbrev pub storedForm : TableForm → Change → TableAnswer
-storedForm form change =
+-- ---- how the code goes: a change is stored, and this held parent is left
+unfoldable pub storedForm : TableForm → Change → Parent → TableAnswer
+storedForm form change parent = ifOn (isTable form) (answerForm (stored (tableOf form) change parent)) (refusal form)
+
+-- the answer, once the place is stored among these
+abbrev pub withStored : List Place → Stored → TableAnswer
+withStored places stored =
     record {
-      number = change .number;
-      table = record { places = set (form .places) (change .at) (change .place); held = form .held; parent = form .parent };
+      number = stored .number;
+      table = record { places = set places (stored .at) (stored .place); held = stored .held; parent = stored .parent };
     }

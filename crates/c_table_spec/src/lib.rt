@@ -1,13 +1,14 @@
 // The C form of a neighbour table and of what the calls on it answer: structs without enums, laid out as C lays them out, and the
 // theorems that tie them to the tables of the rules (specs/). include/tesolvagna.h declares the same structs.
+use nbr_metric_spec::Place;
 ghost use Rattle.c_table_spec.specs.Claims.{AtMost101ChangesInC, CallsAgree, ChangesAreFlagged, EvaluationsAgree, FormsAreTables, NoneRefusedInC, ParentsDoNotFlapInC, RefusalsChangeNothing, TablesAreForms, Witnessed};
 
-// A table: 32 places, whether a parent is held, and its identifier, 0 where none is held.
+// A table: whether a parent is held, its identifier, 0 where none is held, and 32 places.
 #[repr(C)]
 pub struct TableForm {
-    pub places: [nbr_metric_spec::Place; 32],
     pub held: bool,
     pub parent: u64,
+    pub places: [Place; 32],
 }
 
 // What advertise, report and forget answer: the number, and the table, which is the one given where the number is not 0.
@@ -15,6 +16,16 @@ pub struct TableForm {
 pub struct TableAnswer {
     pub number: u8,
     pub table: TableForm,
+}
+
+// What a call comes to before the places are changed: its number, the place that it stores, at which number, and the held parent
+// afterwards.
+pub struct Stored {
+    pub number: u8,
+    pub at: usize,
+    pub place: Place,
+    pub held: bool,
+    pub parent: u64,
 }
 
 // What an evaluation answers: also whether the parent changed, the own rank (65535 without a parent and where it is refused), and

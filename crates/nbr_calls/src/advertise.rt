@@ -2,6 +2,7 @@
 use nbr_metric_spec::Place;
 use nbr_table_spec::Answer;
 use nbr_table_spec::Change;
+use nbr_table_spec::PLACES;
 ghost use mathlib.Core.Path.{_≡_};
 ghost use Rattle.nbr_table_spec.specs.Calls.{advertised};
 ghost use Rattle.nbr_table_spec.specs.Changes.{newcomer as newPlace, withRank};
@@ -27,23 +28,23 @@ fn newcomer(id: u64, rank: u16) -> Place
     added
 }
 
-// What an advertisement stores, on places that break no rule; without a free place for a new neighbour it is refused with 11.
+// What an advertisement stores, on these places; without a free place for a new neighbour it is refused with 11.
 pub fn advertising(places: [Place; 32], id: u64, rank: u16) -> Change
     ensures { λ r. ⌜ r ≡ advertisingOf places id rank ⌝ }
 {
-    let at = nbr_table::search::find(places, 0, id);
-    if at < nbr_table_spec::PLACES {
+    let found = nbr_table::search::seek(places, id);
+    let at = found.at;
+    if at < PLACES {
         return Change {
             number: refusal::DONE,
             at,
             place: with_rank(places[at], rank),
         };
     }
-    let unused = nbr_table::search::find_free(places);
-    if unused < nbr_table_spec::PLACES {
+    if found.unused < PLACES {
         return Change {
             number: refusal::DONE,
-            at: unused,
+            at: found.unused,
             place: newcomer(id, rank),
         };
     }
@@ -57,16 +58,5 @@ pub fn advertise(table: nbr_table_spec::Table, id: u64, rank: u16) -> Answer
 {
     let places = table.places;
     let parent = table.parent;
-    if nbr_table::is_broken(places, parent) {
-        return Answer {
-            number: refusal::OUT_OF_LIMITS,
-            table,
-        };
-    }
-    let change = advertising(places, id, rank);
-    let place = change.place;
-    Answer {
-        number: change.number,
-        table: nbr_table::table_store::with_place(table, change.at, place),
-    }
+    crate::store(table, advertising(places, id, rank), parent)
 }

@@ -1,10 +1,11 @@
 // Evaluate: sets the held parent and says the own rank. The rules are those of docs/RULES.md, Neighbours.
 use nbr_table_spec::Evaluation;
+use nbr_table_spec::Table;
 ghost use mathlib.Core.Path.{_≡_};
 ghost use Rattle.nbr_table_spec.specs.Calls.{evaluated};
 
 // Sets the held parent, and says the own rank. A table that breaks a rule is refused with 8.
-pub fn evaluate(table: nbr_table_spec::Table) -> Evaluation
+pub fn evaluate(table: Table) -> Evaluation
     ensures { λ r. ⌜ r ≡ evaluated table ⌝ }
 {
     let places = table.places;
@@ -21,7 +22,10 @@ pub fn evaluate(table: nbr_table_spec::Table) -> Evaluation
     let chosen = choice.parent;
     Evaluation {
         number: refusal::DONE,
-        table: nbr_table::table_store::with_parent(table, chosen),
+        table: Table {
+            places,
+            parent: chosen,
+        },
         rank: choice.rank,
     }
 }

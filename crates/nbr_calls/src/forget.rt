@@ -1,6 +1,4 @@
 // Forget: removes a neighbour. The rules are those of docs/RULES.md, Neighbours.
-use nbr_table::table_store::with_parent;
-use nbr_table::table_store::with_place;
 use nbr_table_spec::Answer;
 use nbr_table_spec::Change;
 use nbr_table_spec::Parent;
@@ -23,11 +21,12 @@ pub fn without(parent: Parent, id: u64) -> Parent
     }
 }
 
-// What forgetting a neighbour stores, on places that break no rule; an unknown neighbour is refused with 10.
+// What forgetting a neighbour stores, on these places; an unknown neighbour is refused with 10.
 pub fn forgetting(places: [nbr_metric_spec::Place; 32], id: u64) -> Change
     ensures { λ r. ⌜ r ≡ forgettingOf places id ⌝ }
 {
-    let at = nbr_table::search::find(places, 0, id);
+    let found = nbr_table::search::seek(places, id);
+    let at = found.at;
     if at < nbr_table_spec::PLACES {
         return Change {
             number: refusal::DONE,
@@ -45,16 +44,5 @@ pub fn forget(table: nbr_table_spec::Table, id: u64) -> Answer
 {
     let places = table.places;
     let parent = table.parent;
-    if nbr_table::is_broken(places, parent) {
-        return Answer {
-            number: refusal::OUT_OF_LIMITS,
-            table,
-        };
-    }
-    let change = forgetting(places, id);
-    let place = change.place;
-    Answer {
-        number: change.number,
-        table: with_parent(with_place(table, change.at, place), without(parent, id)),
-    }
+    crate::store(table, forgetting(places, id), without(parent, id))
 }

@@ -41,7 +41,7 @@ fn attempted(place: Place, attempts: u16, acked: bool) -> Place
     with_counters(place, sent + attempts, heard + more)
 }
 
-// What a report stores, on places that break no rule. Other numbers of attempts than 1 to 4 are refused with 8, as is a place
+// What a report stores, on these places. Other numbers of attempts than 1 to 4 are refused with 8, as is a place
 // over its limits, and an unknown neighbour with 10.
 pub fn reporting(places: [Place; 32], id: u64, attempts: u32, acked: bool) -> Change
     ensures { λ r. ⌜ r ≡ reportingOf places id attempts acked ⌝ }
@@ -52,7 +52,8 @@ pub fn reporting(places: [Place; 32], id: u64, attempts: u32, acked: bool) -> Ch
     if nbr_table_spec::MOST_REPORTED < attempts {
         return crate::refuse(refusal::OUT_OF_LIMITS);
     }
-    let at = nbr_table::search::find(places, 0, id);
+    let found = nbr_table::search::seek(places, id);
+    let at = found.at;
     if at < nbr_table_spec::PLACES {
         let place = places[at];
         if nbr_table::place_limits::is_unfit(place) {
@@ -74,16 +75,5 @@ pub fn report(table: nbr_table_spec::Table, id: u64, attempts: u32, acked: bool)
 {
     let places = table.places;
     let parent = table.parent;
-    if nbr_table::is_broken(places, parent) {
-        return Answer {
-            number: refusal::OUT_OF_LIMITS,
-            table,
-        };
-    }
-    let change = reporting(places, id, attempts, acked);
-    let place = change.place;
-    Answer {
-        number: change.number,
-        table: nbr_table::table_store::with_place(table, change.at, place),
-    }
+    crate::store(table, reporting(places, id, attempts, acked), parent)
 }

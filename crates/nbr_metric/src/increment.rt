@@ -3,13 +3,6 @@ ghost use mathlib.Core.Path.{_≡_};
 ghost use Prim.Native.Nat.{_-_, _<_, _≤_, _^_};
 ghost use Rattle.nbr_metric_spec.specs.Metric.{IncrementIsCeiling, IsIncrement, increment as incrementOf};
 
-// A counter at the width in which it is multiplied.
-fn wide(counter: u16) -> u32
-    ensures { λ r. ⌜ r ≡ counter ⌝ }
-{
-    counter as u32
-}
-
 // The difference, or 0 where the second number is the greater.
 pub fn minus(from: u32, less: u32) -> u32
     ensures { λ r. ⌜ r ≡ from - less ⌝ }
@@ -28,7 +21,7 @@ pub fn increment(attempts: u16, acked: u16) -> u32
     if acked == 0 {
         return 0;
     }
-    let sent = wide(attempts);
-    let heard = wide(acked);
+    let sent = crate::wide(attempts);
+    let heard = crate::wide(acked);
     (256 * minus(3 * sent, 2 * heard) + (heard - 1)) / heard
 }

@@ -1,6 +1,6 @@
 -- The laws of the join metric: each way out, as the code meets it (`joinWays`). Assumes nothing.
 use Prim.Native.Nat.{ℕ, _-_, _/_, _<_, _≤_}
-use mathlib.Core.Path.{_≡_, refl}
+use mathlib.Core.Path.{_≡_}
 use Rattle.octets_spec.proofs.ChoiceLaws.{choices}
 use Rattle.nbr_metric_spec.specs.JoinMetric.{joinAnswer, joinMetric}
 

@@ -1,7 +1,7 @@
 // What is counted after some rows, and one row more.
 use nbr_replay_spec::Counts;
 ghost use mathlib.Core.Path.{_≡_};
-ghost use mathlib.Core.Bool.{_&&_, false};
+ghost use mathlib.Core.Bool.{false};
 ghost use Prim.Native.Nat.{_+_, _-_, _<_, _≤_, _^_};
 ghost use Rattle.octets_spec.specs.Choice.{ifEq, ifLt};
 ghost use Rattle.nbr_replay_spec.specs.Tally.{OneMore, Room, counted as countedOf, noCounts};
@@ -42,16 +42,6 @@ fn first_with(counts: Counts, entry: u32) -> u32
     counts.first
 }
 
-// Whether each evaluation had an eligible parent, with one more.
-fn eligible_with(before: bool, here: bool) -> bool
-    ensures { λ r. ⌜ r ≡ (before && here) ⌝ }
-{
-    if before {
-        return here;
-    }
-    false
-}
-
 // One row more: only an evaluation is counted.
 pub(crate) fn counted(counts: Counts, kind: u8, visit: nbr_replay_spec::Visit) -> Counts
     requires { ⌜ Room counts × (visit .change ≤ 1) × (visit .entry < 2 ^ 30) ⌝ }
@@ -67,7 +57,7 @@ pub(crate) fn counted(counts: Counts, kind: u8, visit: nbr_replay_spec::Visit) -
         rises: rises_with(counts, visit.entry),
         first: first_with(counts, visit.entry),
         last: visit.exit,
-        applies: eligible_with(counts.applies, visit.eligible),
+        applies: counts.applies & visit.eligible,
     }
 }
 

@@ -1,6 +1,6 @@
 // A log of calls as four lent lists, one row for each call: which logs are refused (specs/Log.antt of nbr_replay_spec).
 ghost use mathlib.Core.Path.{_≡_};
-ghost use Rattle.nbr_replay_spec.specs.Log.{equallyLong, log, someOver, unfitLog};
+ghost use Rattle.nbr_replay_spec.specs.Log.{log, someOver, unfitLog};
 
 // Whether some byte is over a limit.
 fn any_over(s: &[u8], limit: u8) -> bool
@@ -16,31 +16,12 @@ fn any_over(s: &[u8], limit: u8) -> bool
     false
 }
 
-// Whether the four lists are equally long.
-fn are_equally_long(kinds: &[u8], ids: &[u64], values: &[u16], flags: &[u8]) -> bool
-    ensures { λ r. ⌜ r ≡ equallyLong (log (now (kinds .entry)) (now (ids .entry)) (now (values .entry)) (now (flags .entry))) ⌝ }
-{
-    if ids.len() == kinds.len() {
-        if values.len() == kinds.len() {
-            return flags.len() == kinds.len();
-        }
-        return false;
-    }
-    false
-}
-
 // Whether a log is refused: its lists are not equally long, it has over 65535 rows, a kind over 3 or a flag over 1.
 pub fn is_unfit(kinds: &[u8], ids: &[u64], values: &[u16], flags: &[u8]) -> bool
     ensures { λ r. ⌜ r ≡ unfitLog (log (now (kinds .entry)) (now (ids .entry)) (now (values .entry)) (now (flags .entry))) ⌝ }
 {
-    if are_equally_long(kinds, ids, values, flags) {
-        if nbr_replay_spec::MOST_ROWS < kinds.len() {
-            return true;
-        }
-        if any_over(kinds, nbr_replay_spec::EVALUATE) {
-            return true;
-        }
-        return any_over(flags, 1);
-    }
-    true
+    let rows = kinds.len();
+    let equal = (ids.len() == rows) & ((values.len() == rows) & (flags.len() == rows));
+    let kind = any_over(kinds, nbr_replay_spec::EVALUATE);
+    !equal | ((nbr_replay_spec::MOST_ROWS < rows) | (kind | any_over(flags, 1)))
 }

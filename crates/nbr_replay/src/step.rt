@@ -2,28 +2,36 @@
 // therefore none of them is tested again.
 use nbr_replay_spec::Step;
 use nbr_replay_spec::Visit;
+use nbr_table_spec::Change;
+use nbr_table_spec::Parent;
 ghost use mathlib.Core.Path.{_≡_};
 ghost use mathlib.Core.Bool.{false};
 ghost use Rattle.nbr_table_spec.specs.Calls.{broken};
 ghost use Rattle.nbr_replay_spec.specs.Log.{call};
-ghost use Rattle.nbr_replay_spec.specs.Tally.{IsStep, noVisit};
+ghost use Rattle.nbr_replay_spec.specs.Tally.{IsStep, storing as storingStep};
 
-// What a row shows that is no evaluation.
-fn unseen() -> Visit
-    ensures { λ r. ⌜ r ≡ noVisit ⌝ }
+// The step of a call that stores a change and leaves this held parent: there is nothing to count.
+fn storing(change: Change, parent: Parent) -> Step
+    ensures { λ r. ⌜ r ≡ storingStep change parent ⌝ }
 {
-    Visit {
-        change: 0,
-        entry: 0,
-        exit: 0,
-        eligible: false,
+    let place = change.place;
+    Step {
+        at: change.at,
+        place,
+        parent,
+        visit: Visit {
+            change: 0,
+            entry: 0,
+            exit: 0,
+            eligible: false,
+        },
     }
 }
 
 // The step of a row; specs/Log.antt says how a row is read.
 pub(crate) fn step(
     places: [nbr_metric_spec::Place; 32],
-    parent: nbr_table_spec::Parent,
+    parent: Parent,
     kind: u8,
     id: u64,
     value: u16,
@@ -33,34 +41,15 @@ pub(crate) fn step(
     ensures { λ r. ⌜ IsStep (record { places = places; parent = parent }) kind (call kind id value flag) r ⌝ }
 {
     if kind == nbr_replay_spec::ADVERTISE {
-        let change = nbr_calls::advertise::advertising(places, id, value);
-        let place = change.place;
-        return Step {
-            at: change.at,
-            place,
-            parent,
-            visit: unseen(),
-        };
+        return storing(nbr_calls::advertise::advertising(places, id, value), parent);
     }
     if kind == nbr_replay_spec::REPORT {
         let change = nbr_calls::report::reporting(places, id, value as u32, flag == 1);
-        let place = change.place;
-        return Step {
-            at: change.at,
-            place,
-            parent,
-            visit: unseen(),
-        };
+        return storing(change, parent);
     }
     if kind == nbr_replay_spec::FORGET {
-        let change = nbr_calls::forget::forgetting(places, id);
-        let place = change.place;
-        return Step {
-            at: change.at,
-            place,
-            parent: nbr_calls::forget::without(parent, id),
-            visit: unseen(),
-        };
+        let left = nbr_calls::forget::without(parent, id);
+        return storing(nbr_calls::forget::forgetting(places, id), left);
     }
     let settlement = nbr_parent::settle(places, parent);
     let choice = settlement.choice;

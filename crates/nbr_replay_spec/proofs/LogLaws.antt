@@ -2,14 +2,13 @@
 -- not refused has (`run-ready`). Assumes nothing.
 use Prim.Native.Nat.{ℕ, _+_, _<_, _≤_}
 use native.Mathlib.Numerals.{add-one}
-use native.Mathlib.Omega.{arith}
-use mathlib.Core.Path.{_≡_, sym, ap, _∙_}
+use mathlib.Core.Path.{_≡_, sym, _∙_}
 use mathlib.Core.Bool.{Bool, true, false, not, _&&_, _||_}
-use mathlib.Core.List.{List, [], _∷_}
+use mathlib.Core.List.{List}
 use lib.ListN.{length, getD, drop, drop-of-length-le}
 use lib.Seq.{drop-cons}
 use lib.Dec.{eqb, ltb}
-use borrow.Author.Tests.{eq-eqb, ne-eqb, eqb-true, lt-ltb, le-ltb, ltb-false, not-false}
+use borrow.Author.Tests.{eqb-true, lt-ltb, le-ltb, ltb-false, not-false}
 use Rattle.nbr_metric_spec.proofs.MetricLaws.{both}
 use Rattle.nbr_table_spec.proofs.PlaceLaws.{neither}
 use Rattle.nbr_table_spec.specs.declared.Table.{Table}
@@ -30,39 +29,11 @@ module _ (m : ℕ) (xs : List ℕ) (i : ℕ) (w : Bool) where
   unfolding someOver
   over-end l e = rw (drop-of-length-le xs l) at e
 
-module _ (ks ns vs fs : List ℕ) where
-  pub equal-last : length ns ≡ length ks → length vs ≡ length ks → eqb (length fs) (length ks) ≡ equallyLong (log ks ns vs fs)
-  unfolding equallyLong
-  equal-last e f = simp (eq-eqb (length ns) (length ks) e, eq-eqb (length vs) (length ks) f)
+pub unfit-is : (ks ns vs fs : List ℕ) (x y : Bool) → x ≡ someOver 3 ks → y ≡ someOver 1 fs
+    → (not (eqb (length ns) (length ks) && (eqb (length vs) (length ks) && eqb (length fs) (length ks))) || (ltb 65535 (length ks) || (x || y))) ≡ unfitLog (log ks ns vs fs)
+unfolding unfitLog equallyLong
+unfit-is ks ns vs fs x y e f = rw (← e, ← f)
 
-  pub equal-values : length ns ≡ length ks → (length vs ≡ length ks → ⊥) → false ≡ equallyLong (log ks ns vs fs)
-  unfolding equallyLong
-  equal-values e f = simp (eq-eqb (length ns) (length ks) e, ne-eqb (length vs) (length ks) f)
-
-  pub equal-ids : (length ns ≡ length ks → ⊥) → false ≡ equallyLong (log ks ns vs fs)
-  unfolding equallyLong
-  equal-ids e = simp (ne-eqb (length ns) (length ks) e)
-
-module _ (l : Log) (x : Bool) (e : x ≡ equallyLong l) where
-  pub unfit-unequal : x ≡ false → true ≡ unfitLog l
-  unfolding unfitLog
-  unfit-unequal u = simp (← e, u)
-
-  module _ (u : x ≡ true) where
-    pub unfit-long : 65535 < length (l .kinds) → true ≡ unfitLog l
-    unfolding unfitLog
-    unfit-long h = simp (← e, u, lt-ltb 65535 (length (l .kinds)) h)
-
-    module _ (y : Bool) (h : length (l .kinds) ≤ 65535) (f : y ≡ someOver 3 (l .kinds)) where
-      pub unfit-kind : y ≡ true → true ≡ unfitLog l
-      unfolding unfitLog
-      unfit-kind v = simp (← e, u, le-ltb 65535 (length (l .kinds)) h, ← f, v)
-
-      pub unfit-flag : (z : Bool) → y ≡ false → z ≡ someOver 1 (l .flags) → z ≡ unfitLog l
-      unfolding unfitLog
-      unfit-flag z v g = simp (← e, u, le-ltb 65535 (length (l .kinds)) h, ← f, v, g)
-
--- a log that is not refused has lists of one length, and not too many rows
 module _ (l : Log) (x : Bool) (e : x ≡ unfitLog l) (u : x ≡ false) where
   fits : (equallyLong l ≡ true) × (length (l .kinds) ≤ 65535)
   unfolding unfitLog
@@ -79,4 +50,4 @@ run-ready t ks ns vs fs x y g h e u =
     let b₂ = both (eqb (length vs) (length ks)) (eqb (length fs) (length ks)) (b₁ .1) in
     (eqb-true (length ns) (length ks) (b₁ .0), eqb-true (length vs) (length ks) (b₂ .0), eqb-true (length fs) (length ks) (b₂ .1), f .1, sym g ∙ h)
 
-pub ruleset logWays = (over-next, over-found, over-end, equal-last, equal-values, equal-ids, unfit-unequal, unfit-long, unfit-kind, unfit-flag)
+pub ruleset logWays = (over-next, over-found, over-end, unfit-is)

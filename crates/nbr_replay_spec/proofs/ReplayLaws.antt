@@ -12,23 +12,23 @@ use lib.Seq.{set-out}
 use lib.Dec.{eqb}
 use borrow.Author.Tests.{ne-eqb, eqb-false, le-ltb, lt-ltb}
 use Rattle.octets_spec.specs.Choice.{ifEq, ifLt, ifOn}
-use Rattle.octets_spec.proofs.ChoiceLaws.{by-lt, by-test, choices}
+use Rattle.octets_spec.proofs.ChoiceLaws.{by-lt, choices}
 use Rattle.nbr_metric_spec.specs.declared.Place.{Place}
 use Rattle.nbr_table_spec.proofs.PlaceLaws.{clash, length-mapped, split}
 use Rattle.nbr_table_spec.specs.declared.Parent.{Parent}
 use Rattle.nbr_table_spec.specs.declared.Table.{Table}
 use Rattle.nbr_table_spec.specs.Calls.{broken}
 use Rattle.nbr_stability_spec.specs.Stability.{Call, EntryExit, after, any, applies, changes, eachEligible, evaluations, firstCost, lastCost, noneRefused, rises}
-use Rattle.nbr_stability_spec.specs.Stability.Call.{Advertise, Report, Forget, Evaluate}
+use Rattle.nbr_stability_spec.specs.Stability.Call.{Evaluate}
 use Rattle.nbr_stability_spec.proofs.Bound.{at-most-101-changes, kept, none-refused, parents-do-not-flap}
-use Rattle.nbr_replay_spec.specs.Log.{Log, call, callAt, calls, callsTo, log, unfitLog}
+use Rattle.nbr_replay_spec.specs.Log.{Log, call, calls, callsTo, log, unfitLog}
 use Rattle.nbr_replay_spec.specs.declared.Counts.{Counts}
 use Rattle.nbr_replay_spec.specs.declared.Step.{Step}
 use Rattle.nbr_replay_spec.specs.declared.Visit.{Visit}
 use Rattle.nbr_replay_spec.specs.Visit.{visited}
 use Rattle.nbr_replay_spec.specs.declared.Outcome.{Outcome}
 use Rattle.nbr_replay_spec.specs.Replay.{final, outcome, refusedReplay, replayed}
-use Rattle.nbr_replay_spec.specs.Tally.{IsStep, OneMore, Room, counted, noCounts, noted, stepped, tally}
+use Rattle.nbr_replay_spec.specs.Tally.{IsStep, OneMore, Room, counted, noCounts, noted, tally}
 use Rattle.nbr_replay_spec.proofs.Snoc.{final-snoc, tally-advertise, tally-evaluate, tally-forget, tally-report}
 
 -- ---- the loop: what the first i rows come to, from table t on

@@ -2,14 +2,15 @@
 use Prim.Native.Nat.{ℕ, _+_, _-_, _<_, _≤_, _^_}
 use native.Mathlib.Omega.{arith}
 use mathlib.Core.Path.{_≡_, refl, sym, ap, subst, _∙_}
-use mathlib.Core.Bool.{Bool, true, false, cond, _&&_}
+use mathlib.Core.Bool.{false, cond, _&&_}
 use mathlib.Core.List.{List}
 use mathlib.Core.Logic.{⊎-elim}
-use lib.ListN.{length, set}
+use lib.ListN.{length}
+use lib.Seq.{set-out}
 use lib.Dec.{eqb}
 use borrow.Author.Tests.{ne-eqb}
-use Rattle.octets_spec.specs.Choice.{ifEq, ifLt, ifOn}
-use Rattle.octets_spec.proofs.ChoiceLaws.{by-lt, choices}
+use Rattle.octets_spec.specs.Choice.{ifEq, ifOn}
+use Rattle.octets_spec.proofs.ChoiceLaws.{choices}
 use Rattle.nbr_metric_spec.specs.declared.Place.{Place}
 use Rattle.nbr_metric_spec.specs.Metric.{blank, eligible, increment, pathCost}
 use Rattle.nbr_table_spec.specs.Places.{best}
@@ -22,9 +23,8 @@ use Rattle.nbr_table_spec.specs.declared.Settlement.{Settlement}
 use Rattle.nbr_table_spec.specs.declared.Table.{Table}
 use Rattle.nbr_table_spec.specs.Calls.{broken, chosen, evaluated, held, heldCost, heldPlace, markOf, sameParent, withParent, without}
 use Rattle.nbr_table_spec.specs.Offers.{settlement}
-use Rattle.nbr_table_spec.specs.Stores.{advertising, forgetting, reporting}
-use Rattle.nbr_table_spec.proofs.CallLaws.{place-out}
-use Rattle.nbr_table_spec.proofs.StoreLaws.{advertised-by, forgotten-by, reported-by}
+use Rattle.nbr_table_spec.specs.Stores.{advertising, forgetting, reporting, stored}
+use Rattle.nbr_table_spec.proofs.StoreLaws.{advertise-done, forget-done, report-done, store-place}
 use Rattle.nbr_soundness_spec.proofs.Chosen.{own-rank}
 use Rattle.nbr_stability_spec.specs.Stability.{Call, after}
 use Rattle.nbr_stability_spec.specs.Stability.Call.{Advertise, Report, Forget, Evaluate}
@@ -33,7 +33,7 @@ use Rattle.nbr_replay_spec.specs.declared.Counts.{Counts}
 use Rattle.nbr_replay_spec.specs.declared.Step.{Step}
 use Rattle.nbr_replay_spec.specs.declared.Visit.{Visit}
 use Rattle.nbr_replay_spec.specs.Visit.{visited}
-use Rattle.nbr_replay_spec.specs.Tally.{IsStep, OneMore, counted, noVisit, noted, shown, stepped}
+use Rattle.nbr_replay_spec.specs.Tally.{IsStep, OneMore, counted, noted, shown, stepped, storing}
 
 -- the cost on exit: none, and that of a held parent
 no-exit : (p : Parent) (rank : ℕ) (ps : List Place) → p ≡ None → ifOn (markOf p) rank 0 ≡ heldCost (record { places = ps; parent = p })
@@ -50,43 +50,38 @@ module _ (ps : List Place) (q : Parent) (kind n value flag : ℕ) (b : broken (r
   t = record { places = ps; parent = q }
 
   -- a row that is no evaluation
-  quiet : (c : Call) (s : Step) → kind < 3 → call kind n value flag ≡ c → stepped t s ≡ after t c → s .visit ≡ noVisit → IsStep t kind (call kind n value flag) s
-  quiet c s k e h v =
-      record {
-        leaves = h ∙ ap (after t) (sym e);
-        shows = λ g. absurd (omega arith);
-        change = subst (λ (z : Visit). z .change ≤ 1) (sym v) (omega arith);
-        entry = subst (λ (z : Visit). z .entry < 2 ^ 30) (sym v) (omega arith);
-      }
+  quiet : (c : Call) (d : Change) (r : Parent) (a : Answer) (s : Step) → kind < 3 → call kind n value flag ≡ c → stored t d r ≡ a → a .table ≡ after t c → s ≡ storing d r → IsStep t kind (call kind n value flag) s
+  quiet c d r a s k e h g f =
+      let u : stepped t (storing d r) ≡ after t c = ap (λ (z : Answer). z .table) (store-place t d r (broken t) refl b ∙ h) ∙ g in
+      subst (IsStep t kind (call kind n value flag)) (sym f)
+      (record { leaves = u ∙ ap (after t) (sym e); shows = λ z. absurd (omega arith); change = omega arith; entry = omega arith })
 
-  module _ (c : Change) (v : Visit) (w : v ≡ noVisit) where
+  module _ (c : Change) (s : Step) where
     is-advertise : kind ≡ 0 → call kind n value flag ≡ Advertise n value
     unfolding call ifEq
     is-advertise k = rw k
 
-    pub step-advertise : kind ≡ 0 → c ≡ advertising ps n value → IsStep t kind (call kind n value flag) (record { at = c .at; place = c .place; parent = q; visit = v })
+    pub step-advertise : kind ≡ 0 → c ≡ advertising ps n value → s ≡ storing c q → IsStep t kind (call kind n value flag) s
     unfolding after
-    step-advertise k e = quiet (Advertise n value) _ (omega arith) (is-advertise k) (ap (λ (a : Answer). a .table) (advertised-by t b l n c _ value e refl)) w
+    step-advertise k e f = quiet (Advertise n value) c q _ s (omega arith) (is-advertise k) (advertise-done t n c l _ value e refl) refl f
 
     module _ (o : kind ≡ 0 → ⊥) where
       is-report : kind ≡ 1 → call kind n value flag ≡ Report n value (eqb flag 1)
       unfolding call ifEq
       is-report k = rw k
 
-      pub step-report : (k : ℕ) → kind ≡ 1 → k ≡ value → c ≡ reporting ps n k (eqb flag 1) → IsStep t kind (call kind n value flag) (record { at = c .at; place = c .place; parent = q; visit = v })
+      pub step-report : (k : ℕ) → kind ≡ 1 → k ≡ value → c ≡ reporting ps n k (eqb flag 1) → s ≡ storing c q → IsStep t kind (call kind n value flag) s
       unfolding after
-      step-report k d f e =
-          quiet (Report n value (eqb flag 1)) _ (omega arith) (is-report d)
-          (ap (λ (a : Answer). a .table) (reported-by t b l n c _ value (eqb flag 1) (e ∙ ap (λ (z : ℕ). reporting ps n z (eqb flag 1)) f) refl)) w
+      step-report k d g e f = quiet (Report n value (eqb flag 1)) c q _ s (omega arith) (is-report d) (report-done t n c l _ value (eqb flag 1) (e ∙ ap (λ (z : ℕ). reporting ps n z (eqb flag 1)) g) refl) refl f
 
       module _ (p : kind ≡ 1 → ⊥) where
         is-forget : kind ≡ 2 → call kind n value flag ≡ Forget n
         unfolding call ifEq
         is-forget k = rw k
 
-        pub step-forget : (r : Parent) → kind ≡ 2 → c ≡ forgetting ps n → r ≡ without n q → IsStep t kind (call kind n value flag) (record { at = c .at; place = c .place; parent = r; visit = v })
+        pub step-forget : (r : Parent) → kind ≡ 2 → c ≡ forgetting ps n → r ≡ without n q → s ≡ storing c r → IsStep t kind (call kind n value flag) s
         unfolding after
-        step-forget r k e f = quiet (Forget n) _ (omega arith) (is-forget k) (ap (λ (a : Answer). a .table) (forgotten-by t b l n c _ r _ e f refl refl)) w
+        step-forget r k e g f = quiet (Forget n) c r _ s (omega arith) (is-forget k) (forget-done t n c l _ r e g refl) refl f
 
   module _ (o : kind ≡ 0 → ⊥) (p : kind ≡ 1 → ⊥) (d : kind ≡ 2 → ⊥) where
     is-evaluate : call kind n value flag ≡ Evaluate
@@ -119,7 +114,7 @@ module _ (ps : List Place) (q : Parent) (kind n value flag : ℕ) (b : broken (r
         let d : m .choice ≡ chosen q (heldPlace q ps) (best ps) = ap (λ (y : Settlement). y .choice) e in
         let u = evaluated-leaves (m .choice) d in
         record {
-          leaves = sym (place-out (record { places = ps; parent = m .choice .parent }) 32 z l (omega arith)) ∙ u ∙ ap (after t) (sym is-evaluate);
+          leaves = ap (λ (y : List Place). record { places = y; parent = m .choice .parent }) (set-out ps 32 z (omega arith)) ∙ u ∙ ap (after t) (sym is-evaluate);
           shows = λ k. w ∙ ap (λ (y : Place). shown y q (m .choice)) (ap (λ (y : Settlement). y .held) e) ∙ evaluated-shows (m .choice) d ∙ ap (λ (y : Call). visited t (after t y)) (sym is-evaluate);
           change = f;
           entry = g;
@@ -129,23 +124,17 @@ module _ (ps : List Place) (q : Parent) (kind n value flag : ℕ) (b : broken (r
 pub rises-later : (n r d c l : ℕ) → (n ≡ 0 → ⊥) → d ≡ c - l → r + d ≡ ifEq n 0 0 (r + (c - l))
 rises-later n r d c l h e = let k : r + d ≡ r + (c - l) = omega arith in search choices
 
-pub eligible-more : (a x : Bool) → a ≡ true → x ≡ (a && x)
-eligible-more a x u = rw u
-
-pub eligible-less : (a x : Bool) → a ≡ false → false ≡ (a && x)
-eligible-less a x u = rw u
-
 module _ (s : Counts) (v : Visit) (kind : ℕ) where
   pub counted-quiet : kind < 3 → s ≡ counted kind s v
   unfolding counted
   counted-quiet h = search choices
 
-  pub counted-noted : (r f : ℕ) (x : Bool) → 3 ≤ kind → r ≡ ifEq (s .evaluations) 0 0 (s .rises + (v .entry - s .last)) → f ≡ ifEq (s .evaluations) 0 (v .entry) (s .first) → x ≡ (s .applies && v .eligible)
-      → _≡_ {A = Counts} (record { evaluations = s .evaluations + 1; changes = s .changes + v .change; rises = r; first = f; last = v .exit; applies = x }) (counted kind s v)
+  pub counted-noted : (r f : ℕ) → 3 ≤ kind → r ≡ ifEq (s .evaluations) 0 0 (s .rises + (v .entry - s .last)) → f ≡ ifEq (s .evaluations) 0 (v .entry) (s .first)
+      → _≡_ {A = Counts} (record { evaluations = s .evaluations + 1; changes = s .changes + v .change; rises = r; first = f; last = v .exit; applies = s .applies && v .eligible }) (counted kind s v)
   unfolding counted noted
-  counted-noted r f x h e₁ e₂ e₃ =
-      let z : _≡_ {A = Counts} (record { evaluations = s .evaluations + 1; changes = s .changes + v .change; rises = r; first = f; last = v .exit; applies = x }) (noted s v) =
-      λ i. record { evaluations = s .evaluations + 1; changes = s .changes + v .change; rises = e₁ i; first = e₂ i; last = v .exit; applies = e₃ i } in
+  counted-noted r f h e₁ e₂ =
+      let z : _≡_ {A = Counts} (record { evaluations = s .evaluations + 1; changes = s .changes + v .change; rises = r; first = f; last = v .exit; applies = s .applies && v .eligible }) (noted s v) =
+      λ i. record { evaluations = s .evaluations + 1; changes = s .changes + v .change; rises = e₁ i; first = e₂ i; last = v .exit; applies = s .applies && v .eligible } in
       search choices
 
 pub same-counts : (s : Counts) → OneMore s s
@@ -153,4 +142,4 @@ same-counts s = record { evaluations = omega arith; changes = omega arith; rises
 
 pub ruleset stepWays = (step-advertise, step-report, step-forget, step-evaluate)
 
-pub ruleset countWays = (rises-later, eligible-more, eligible-less, counted-quiet, counted-noted, same-counts, choices)
+pub ruleset countWays = (rises-later, counted-quiet, counted-noted, same-counts, choices)

@@ -8,6 +8,7 @@ use lib.ListN.{length, set}
 use Rattle.octets_spec.specs.Choice.{ifEq, ifLt, ifOn}
 use Rattle.nbr_metric_spec.specs.declared.Place.{Place}
 use Rattle.nbr_metric_spec.specs.Metric.{eligible, pathCost}
+use Rattle.nbr_table_spec.specs.declared.Change.{Change}
 use Rattle.nbr_table_spec.specs.declared.Choice.{Choice}
 use Rattle.nbr_table_spec.specs.declared.Parent.{Parent}
 use Rattle.nbr_table_spec.specs.declared.Table.{Table}
@@ -50,9 +51,10 @@ noted counts visit =
 unfoldable pub counted : ℕ → Counts → Visit → Counts
 counted kind counts visit = ifLt kind 3 counts (noted counts visit)
 
--- what a row shows that is no evaluation
-abbrev pub noVisit : Visit
-noVisit = record { change = 0; entry = 0; exit = 0; eligible = false }
+-- the step of a call that stores a change and leaves this held parent: there is nothing to count
+abbrev pub storing : Change → Parent → Step
+storing change parent =
+    record { at = change .at; place = change .place; parent = parent; visit = record { change = 0; entry = 0; exit = 0; eligible = false } }
 
 -- what an evaluation shows, from the place of the parent that was held, that parent and the choice: the cost on exit is the own rank
 abbrev pub shown : Place → Parent → Choice → Visit

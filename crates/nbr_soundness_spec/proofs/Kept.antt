@@ -5,13 +5,13 @@ use mathlib.Core.Path.{_≡_, refl, sym, subst, _∙_}
 use mathlib.Core.Bool.{Bool, true, false, cond, _||_, or-true}
 use mathlib.Core.List.{List, [], _∷_}
 use lib.Dec.{ltb, eqb}
-use borrow.Author.Tests.{eqb-false, ltb-false, not-false}
+use borrow.Author.Tests.{eqb-false, le-ltb, ltb-false, not-false}
 use Rattle.octets_spec.specs.Choice.{ifEq, ifLt, ifOn}
 use Rattle.nbr_metric_spec.specs.declared.Place.{Place}
 use Rattle.nbr_metric_spec.specs.Metric.{blank, eligible, pathCost}
 use Rattle.nbr_metric_spec.proofs.MetricLaws.{eligible-used}
 use Rattle.nbr_table_spec.specs.Places.{best, changeFirst, free, known, named, nonzero, some, twice, unfit}
-use Rattle.nbr_table_spec.proofs.PlaceLaws.{clash, fit-limits, free-not, neither, split, unfit-used}
+use Rattle.nbr_table_spec.proofs.PlaceLaws.{clash, fit-limits, neither, split}
 use Rattle.nbr_table_spec.specs.declared.Parent.{Parent}
 use Rattle.nbr_table_spec.specs.declared.Parent.the-variants.{None, Held}
 use Rattle.nbr_table_spec.specs.declared.Table.{Table}
@@ -54,7 +54,8 @@ there-kept (Held m) ps qs k h = there-known m qs (k m (held-known m ps h))
 
 -- ---- a place in use stays within its limits
 fit-used : (p : Place) → p .used ≡ true → p .attempts ≤ 255 → p .acked ≤ p .attempts → unfit p ≡ false
-fit-used p u t a = sym (unfit-used p t a u)
+unfolding unfit free
+fit-used p u t a = simp (le-ltb 255 (p .attempts) t, le-ltb (p .attempts) (p .acked) a, u)
 
 module _ (n : ℕ) (p : Place) (e : named n p ≡ true) (h : unfit p ≡ false) where
   rank-fit : (rank : ℕ) → unfit (withRank rank p) ≡ false

@@ -6,17 +6,15 @@ use mathlib.Core.Path.{_≡_, refl, sym, subst}
 use mathlib.Core.Bool.{Bool, true, false, cond, not, _&&_}
 use mathlib.Core.List.{List, [], _∷_}
 use mathlib.Core.Logic.{⊎-elim}
-use lib.Dec.{ltb}
 use borrow.Author.Tests.{eq-eqb, not-true}
-use Rattle.octets_spec.specs.Choice.{ifOn, ifLt}
-use Rattle.nbr_metric_spec.specs.Metric.{eligible, pathCost}
+use Rattle.octets_spec.specs.Choice.{ifOn}
+use Rattle.nbr_metric_spec.specs.Metric.{eligible}
 use Rattle.nbr_metric_spec.proofs.MetricLaws.{both, cost-to}
-use Rattle.nbr_table_spec.proofs.PlaceLaws.{clash, split}
-use Rattle.nbr_table_spec.specs.Places.{best}
+use Rattle.nbr_table_spec.proofs.PlaceLaws.{clash}
 use Rattle.nbr_table_spec.specs.declared.Parent.{Parent}
 use Rattle.nbr_table_spec.specs.declared.Parent.the-variants.{None, Held}
 use Rattle.nbr_table_spec.specs.declared.Table.{Table}
-use Rattle.nbr_table_spec.specs.Calls.{broken, chosen, evaluated, held, heldCost, sameParent}
+use Rattle.nbr_table_spec.specs.Calls.{broken, evaluated, held, heldCost, sameParent}
 use Rattle.nbr_soundness_spec.proofs.Kept.{calls-keep-tables}
 use Rattle.nbr_soundness_spec.proofs.Chosen.{changes-gain-641, eligible-after, held-cost-from}
 use Rattle.nbr_stability_spec.specs.Stability.{AtMost101Changes, Call, NoneRefused, ParentsDoNotFlap, EntryExit, after, any, applies, changes, eachEligible, evaluations, firstCost, lastCost, noneRefused, rises}

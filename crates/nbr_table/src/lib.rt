@@ -7,7 +7,6 @@ ghost use Rattle.nbr_table_spec.specs.Scan.{among};
 
 pub mod place_limits;
 pub mod search;
-pub mod table_store;
 
 // Whether an identifier is one of the first so many. No early exit, so that several are compared at once.
 fn stands(ids: &[u64; 32], count: usize, id: u64) -> bool

@@ -7,30 +7,13 @@ ghost use Rattle.nbr_table_spec.specs.Places.{nonzero, unfit};
 fn is_nonzero(place: Place) -> bool
     ensures { λ r. ⌜ r ≡ nonzero place ⌝ }
 {
-    if 0 < place.id {
-        return true;
-    }
-    if 0 < place.rank {
-        return true;
-    }
-    if 0 < place.attempts {
-        return true;
-    }
-    0 < place.acked
+    (0 < place.id) | ((0 < place.rank) | ((0 < place.attempts) | (0 < place.acked)))
 }
 
-// Whether a place breaks a rule by itself.
+// Whether a place breaks a rule by itself. No branch: most places break none.
 pub fn is_unfit(place: Place) -> bool
     ensures { λ r. ⌜ r ≡ unfit place ⌝ }
 {
-    if nbr_table_spec::MOST_COUNTED < place.attempts {
-        return true;
-    }
-    if place.attempts < place.acked {
-        return true;
-    }
-    if place.used {
-        return false;
-    }
-    is_nonzero(place)
+    (nbr_table_spec::MOST_COUNTED < place.attempts)
+        | ((place.attempts < place.acked) | (!place.used & is_nonzero(place)))
 }

@@ -1,8 +1,11 @@
-// Looking for a place, lowest-numbered first. A place that is not there has the number 32.
+// Looking for places: one walk finds a neighbour and a free place.
 use nbr_metric_spec::Place;
+use nbr_table_spec::Found;
+use nbr_table_spec::PLACES;
 ghost use mathlib.Core.Path.{_≡_};
-ghost use Rattle.nbr_table_spec.specs.Places.{free, named};
-ghost use Rattle.nbr_table_spec.specs.Search.{firstFrom};
+ghost use mathlib.Core.Bool.{cond};
+ghost use Rattle.nbr_table_spec.specs.Places.{named};
+ghost use Rattle.nbr_table_spec.specs.Stores.{found};
 
 // Whether a place is in use by this neighbour.
 fn is_named(place: Place, id: u64) -> bool
@@ -14,40 +17,26 @@ fn is_named(place: Place, id: u64) -> bool
     false
 }
 
-// The number of the neighbour's place, looked for from a number on; that number where it is over 32.
-pub fn find(places: [Place; 32], from: usize, id: u64) -> usize
-    ensures { λ r. ⌜ r ≡ firstFrom (named id) from places ⌝ }
+// One of two numbers.
+fn choose(first: bool, one: usize, other: usize) -> usize
+    ensures { λ r. ⌜ r ≡ cond first one other ⌝ }
 {
-    let mut i = from;
-    while i < nbr_table_spec::PLACES {
-        if is_named(places[i], id) {
-            return i;
-        }
-        i += 1;
-    }
-    i
+    if first { one } else { other }
 }
 
-// Whether a place is free.
-fn is_free(place: Place) -> bool
-    ensures { λ r. ⌜ r ≡ free place ⌝ }
+// Where a neighbour stands, and the lowest-numbered free place, by number; 32 where there is none. The walk is from the end, so that the
+// lowest number stays.
+pub fn seek(places: [Place; 32], id: u64) -> Found
+    ensures { λ r. ⌜ r ≡ found id places ⌝ }
 {
-    if place.used {
-        return false;
+    let mut at = PLACES;
+    let mut unused = PLACES;
+    let mut i = PLACES;
+    while 0 < i {
+        i -= 1;
+        let place = places[i];
+        at = choose(is_named(place, id), i, at);
+        unused = choose(place.used, unused, i);
     }
-    true
-}
-
-// The number of the lowest-numbered free place.
-pub fn find_free(places: [Place; 32]) -> usize
-    ensures { λ r. ⌜ r ≡ firstFrom free 0 places ⌝ }
-{
-    let mut i = 0;
-    while i < nbr_table_spec::PLACES {
-        if is_free(places[i]) {
-            return i;
-        }
-        i += 1;
-    }
-    i
+    Found { at, unused }
 }

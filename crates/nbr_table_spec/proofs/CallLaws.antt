@@ -1,29 +1,21 @@
 -- The laws of the table's calls: each way out, as the code meets it (the rulesets at the end). Assumes nothing.
 use Prim.Native.Nat.{ℕ, _+_, _-_, _/_, _<_, _≤_}
 use native.Mathlib.Omega.{arith}
-use mathlib.Core.Path.{_≡_, refl, sym, ap, ap₂, _∙_}
-use mathlib.Core.Bool.{Bool, true, false, cond, _||_}
-use mathlib.Core.List.{List}
-use lib.ListN.{length, getD, replicate, set, List·getD-eq-default}
-use lib.Seq.{set-out}
+use mathlib.Core.Path.{_≡_, sym, ap, _∙_}
+use mathlib.Core.Bool.{Bool, true, false, cond}
+use lib.ListN.{replicate}
 use lib.Dec.{eqb}
-use mir.Syntax.{w16}
-use mir.Val.{Fits}
 use Rattle.octets_spec.proofs.ChoiceLaws.{choices}
 use Rattle.nbr_metric_spec.specs.declared.Place.{Place}
 use Rattle.nbr_metric_spec.specs.Metric.{blank, eligible, pathCost}
-use Rattle.nbr_metric_spec.proofs.MetricLaws.{cost-to}
-use Rattle.nbr_table_spec.specs.Places.{best, changeFirst, free, known, named, some, twice, unfit, nonzero}
-use Rattle.nbr_table_spec.specs.Search.{firstFrom}
-use Rattle.nbr_table_spec.proofs.PlaceLaws.{length-mapped, first-at, fit-limits, from-0, neither, none-at, set-there, some-missing, some-there}
+use Rattle.nbr_table_spec.specs.Places.{best, unfit}
+use Rattle.nbr_table_spec.proofs.PlaceLaws.{fit-limits}
 use Rattle.nbr_table_spec.specs.declared.Parent.{Parent}
 use Rattle.nbr_table_spec.specs.declared.Parent.the-variants.{None, Held}
 use Rattle.nbr_table_spec.specs.declared.Table.{Table}
-use Rattle.nbr_table_spec.specs.declared.Answer.{Answer}
 use Rattle.nbr_table_spec.specs.declared.Choice.{Choice}
-use Rattle.nbr_table_spec.specs.declared.Evaluation.{Evaluation}
-use Rattle.nbr_table_spec.specs.Changes.{attempted, newcomer, withCounters, withRank}
-use Rattle.nbr_table_spec.specs.Calls.{advertised, answer, broken, choice, choiceOf, chosen, emptyTable, evaluated, evaluation, forgotten, held, heldPlace, idOf, markOf, parentMissing, reported, sameParent, settled, withParent, withPlaces, without}
+use Rattle.nbr_table_spec.specs.Changes.{attempted, newcomer, withCounters}
+use Rattle.nbr_table_spec.specs.Calls.{broken, choice, choiceOf, chosen, emptyTable, evaluated, evaluation, held, idOf, markOf, sameParent, settled, withParent, without}
 
 -- ---- what a place becomes
 module _ (p : Place) (k : ℕ) (ok : Bool) (more : ℕ) (q : Place) (e : more ≡ cond ok 1 0) where
@@ -50,92 +42,7 @@ module _ (p : Place) (x : Bool) (e : x ≡ unfit p) (u : x ≡ false) where
   pub fit-acked : p .acked ≤ 255
   fit-acked = omega (arith, fit-limits p (sym e ∙ u))
 
--- ---- the calls
-module _ (t : Table) (n : ℕ) (x : Bool) (e : x ≡ broken t) where
-  -- a table that breaks a rule
-  module _ (u : x ≡ true) where
-    b-on : broken t ≡ true
-    b-on = sym e ∙ u
-
-    pub advertised-broken : (k : ℕ) → answer 8 t ≡ advertised t n k
-    unfolding advertised
-    advertised-broken k = let b = b-on in search choices
-
-    pub reported-broken : (k : ℕ) (ok : Bool) → answer 8 t ≡ reported t n k ok
-    unfolding reported
-    reported-broken k ok = let b = b-on in search choices
-
-    pub forgotten-broken : answer 8 t ≡ forgotten t n
-    unfolding forgotten
-    forgotten-broken = let b = b-on in search choices
-
-  -- one that breaks none
-  module _ (u : x ≡ false) where
-    b-off : broken t ≡ false
-    b-off = sym e ∙ u
-
-    module _ (k : ℕ) (ok : Bool) where
-      pub reported-none : k < 1 → answer 8 t ≡ reported t n k ok
-      unfolding reported
-      reported-none h = let b = b-off in search choices
-
-      pub reported-many : 1 ≤ k → 4 < k → answer 8 t ≡ reported t n k ok
-      unfolding reported
-      reported-many g h = let b = b-off in search choices
-
-    -- the neighbour is looked for, and found at i, or not
-    module _ (i : ℕ) (s : i ≡ firstFrom (named n) 0 (t .places)) (l : length (t .places) ≡ 32) where
-      module _ (w : i < 32) where
-        there : known n (t .places) ≡ true
-        there = some-there (named n) (t .places) i 32 s l w
-
-        changed : (g : Place → Place) (q : Place) (v : Table) → q ≡ g (getD (t .places) i blank) → v ≡ withPlaces t (set (t .places) i q) → answer 0 v ≡ answer 0 (withPlaces t (changeFirst (named n) g (t .places)))
-        changed g q v f h = ap (answer 0) (h ∙ ap (withPlaces t) (set-there (named n) (t .places) i 32 s l g q f))
-
-        pub advertised-known : (k : ℕ) (q : Place) (v : Table) → q ≡ withRank k (getD (t .places) i blank) → v ≡ withPlaces t (set (t .places) i q) → answer 0 v ≡ advertised t n k
-        unfolding advertised
-        advertised-known k q v f g = let b = b-off in let a = there in let c = changed (withRank k) q v f g in search choices
-
-        pub reported-known : (k : ℕ) (ok : Bool) (q : Place) (v : Table) → 1 ≤ k → k ≤ 4 → q ≡ attempted k ok (getD (t .places) i blank) → v ≡ withPlaces t (set (t .places) i q) → answer 0 v ≡ reported t n k ok
-        unfolding reported
-        reported-known k ok q v g h f d = let b = b-off in let a = there in let c = changed (attempted k ok) q v f d in search choices
-
-        pub forgotten-known : (o : Parent) (v z : Table) (q : Place) → o ≡ without n (t .parent) → q ≡ blank → v ≡ withPlaces t (set (t .places) i q) → z ≡ withParent v o → answer 0 z ≡ forgotten t n
-        unfolding forgotten
-        forgotten-known o v z q f g h d =
-            let b = b-off in
-            let a = there in
-            let c : v ≡ withPlaces t (changeFirst (named n) (λ p. blank) (t .places)) = h ∙ ap (withPlaces t) (set-there (named n) (t .places) i 32 s l (λ p. blank) q g) in
-            let y : answer 0 z ≡ answer 0 (record { places = changeFirst (named n) (λ p. blank) (t .places); parent = without n (t .parent) }) =
-            ap (answer 0) (d ∙ ap (withParent v) f ∙ ap (λ (w : Table). withParent w (without n (t .parent))) c) in
-            search choices
-
-      module _ (w : 32 ≤ i) where
-        not-there : known n (t .places) ≡ false
-        not-there = some-missing (named n) (t .places) i 32 s l w
-
-        module _ (j : ℕ) (m : j ≡ firstFrom free 0 (t .places)) (k : ℕ) where
-          pub advertised-new : (q : Place) (v : Table) → j < 32 → q ≡ newcomer n k → v ≡ withPlaces t (set (t .places) j q) → answer 0 v ≡ advertised t n k
-          unfolding advertised
-          advertised-new q v h f g =
-              let b = b-off in
-              let a = not-there in
-              let c : some free (t .places) ≡ true = some-there free (t .places) j 32 m l h in
-              let d : answer 0 v ≡ answer 0 (withPlaces t (changeFirst free (λ p. newcomer n k) (t .places))) = ap (answer 0) (g ∙ ap (withPlaces t) (set-there free (t .places) j 32 m l (λ p. newcomer n k) q f)) in
-              search choices
-
-          pub advertised-full : 32 ≤ j → answer 11 t ≡ advertised t n k
-          unfolding advertised
-          advertised-full h = let b = b-off in let a = not-there in let c : some free (t .places) ≡ false = some-missing free (t .places) j 32 m l h in search choices
-
-        pub reported-unknown : (k : ℕ) (ok : Bool) → 1 ≤ k → k ≤ 4 → answer 10 t ≡ reported t n k ok
-        unfolding reported
-        reported-unknown k ok g h = let b = b-off in let a = not-there in search choices
-
-        pub forgotten-unknown : answer 10 t ≡ forgotten t n
-        unfolding forgotten
-        forgotten-unknown = let b = b-off in let a = not-there in search choices
-
+-- ---- forget
 module _ (n : ℕ) (q : Parent) where
   pub without-none : q ≡ None → None ≡ without n q
   unfolding without
@@ -150,19 +57,6 @@ module _ (n : ℕ) (q : Parent) where
   without-other m e h = rw e (search choices)
 
 -- ---- evaluation
-module _ (q : Parent) (ps : List Place) where
-  pub held-none : (b : Place) → q ≡ None → b ≡ blank → b ≡ heldPlace q ps
-  unfolding heldPlace
-  held-none b e f = rw e f
-
-  pub held-at : (n i : ℕ) (p : Place) → q ≡ Held n → i ≡ firstFrom (named n) 0 ps → p ≡ getD ps i blank → p ≡ heldPlace q ps
-  unfolding heldPlace
-  held-at n i p e s f = rw e (f ∙ ap (λ (k : ℕ). getD ps k blank) (s ∙ from-0 (named n) ps) ∙ first-at (named n) ps)
-
--- a place at a number, and the blank place past the end
-pub at-out : (ps : List Place) (i : ℕ) (b : Place) → length ps ≡ 32 → 32 ≤ i → b ≡ blank → b ≡ getD ps i blank
-at-out ps i b l h e = e ∙ sym (List·getD-eq-default ps blank (omega arith))
-
 module _ (q : Parent) (h b : Place) (x : Bool) (e : x ≡ eligible b) where
   pub chosen-none : x ≡ false → choice None 65535 ≡ chosen q h b
   unfolding chosen
@@ -240,15 +134,7 @@ module _ (q p : Parent) where
   unfolding sameParent
   same-held n m e f = rw (e, f)
 
--- a place stored past the end is not stored
-pub place-out : (t : Table) (i : ℕ) (p : Place) → length (t .places) ≡ 32 → 32 ≤ i → t ≡ withPlaces t (set (t .places) i p)
-place-out t i p l h = ap (withPlaces t) (sym (set-out (t .places) i p (omega arith)))
-
 -- one set for each crate of functions over a table
 pub ruleset emptyWays = (empty-is)
-
-pub ruleset storeWays = (length-mapped, place-out)
-
-pub ruleset heldWays = (length-mapped, held-none, held-at, at-out)
 
 pub ruleset sameWays = (mark-held, mark-none, id-held, id-none, same-none, same-gained, same-lost, same-held)

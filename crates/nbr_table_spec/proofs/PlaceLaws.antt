@@ -1,21 +1,22 @@
 -- The laws of places: each way out of a function over places, as the code meets it (the rulesets at the end), and how what
 -- is found by number is what the definitions speak of. Assumes nothing.
-use Prim.Native.Nat.{ℕ, zero, suc, _+_, _<_, _≤_}
+use Prim.Native.Nat.{ℕ, zero, suc, _+_, _-_, _<_, _≤_}
 use native.Mathlib.Numerals.{add-one}
 use native.Mathlib.Omega.{arith}
 use mathlib.Core.Path.{_≡_, refl, sym, ap, subst, _∙_}
-use mathlib.Core.Bool.{Bool, true, false, _&&_, _||_}
+use mathlib.Core.Bool.{Bool, true, false, cond, not, _&&_, _||_}
 use mathlib.Core.List.{List, [], _∷_, map}
-use lib.ListN.{length, getD, drop, set, length-map, length-drop, drop-of-length-le}
+use lib.ListN.{length, getD, drop, set, length-map, drop-of-length-le}
 use lib.Seq.{drop-cons}
 use lib.Dec.{ltb, eqb}
-use borrow.Author.Tests.{lt-ltb, le-ltb, ltb-false}
+use borrow.Author.Tests.{ltb-false}
 use Rattle.octets_spec.specs.Choice.{ifOn}
-use Rattle.octets_spec.proofs.ChoiceLaws.{by-lt, choices}
+use Rattle.octets_spec.proofs.ChoiceLaws.{by-test, choices}
 use Rattle.nbr_metric_spec.specs.declared.Place.{Place}
 use Rattle.nbr_metric_spec.specs.Metric.{blank, eligible, pathCost}
-use Rattle.nbr_table_spec.specs.Places.{better, bestOf, best, changeFirst, firstOf, free, known, named, nearer, nonzero, some, twice, unfit}
-use Rattle.nbr_table_spec.specs.Search.{first, firstFrom}
+use Rattle.nbr_table_spec.specs.Places.{better, changeFirst, firstOf, free, named, nearer, nonzero, some, unfit}
+use Rattle.nbr_table_spec.specs.declared.Found.{Found}
+use Rattle.nbr_table_spec.specs.Stores.{first, found}
 
 -- an array of structs that is a field has its length
 pub length-mapped : {X Y : Type 0} (f : X → Y) (l : List X) (n : ℕ) → length (map f l) ≡ n → length l ≡ n
@@ -23,14 +24,6 @@ length-mapped f l n e = sym (length-map l f) ∙ e
 
 -- ---- one place
 module _ (p : Place) where
-  pub free-not : p .used ≡ true → false ≡ free p
-  unfolding free
-  free-not u = rw u
-
-  pub free-is : p .used ≡ false → true ≡ free p
-  unfolding free
-  free-is u = rw u
-
   pub named-used : (n : ℕ) → p .used ≡ true → eqb (p .id) n ≡ named n p
   unfolding named
   named-used n u = rw u
@@ -39,38 +32,13 @@ module _ (p : Place) where
   unfolding named
   named-free n u = rw u
 
-  pub nonzero-id : 0 < p .id → true ≡ nonzero p
+  pub nonzero-is : (ltb 0 (p .id) || (ltb 0 (p .rank) || (ltb 0 (p .attempts) || ltb 0 (p .acked)))) ≡ nonzero p
   unfolding nonzero
-  nonzero-id h = simp (lt-ltb 0 (p .id) h)
+  nonzero-is = refl
 
-  pub nonzero-rank : p .id ≤ 0 → 0 < p .rank → true ≡ nonzero p
-  unfolding nonzero
-  nonzero-rank i h = simp (le-ltb 0 (p .id) i, lt-ltb 0 (p .rank) h)
-
-  pub nonzero-attempts : p .id ≤ 0 → p .rank ≤ 0 → 0 < p .attempts → true ≡ nonzero p
-  unfolding nonzero
-  nonzero-attempts i r h = simp (le-ltb 0 (p .id) i, le-ltb 0 (p .rank) r, lt-ltb 0 (p .attempts) h)
-
-  pub nonzero-acked : p .id ≤ 0 → p .rank ≤ 0 → p .attempts ≤ 0 → ltb 0 (p .acked) ≡ nonzero p
-  unfolding nonzero
-  nonzero-acked i r t = simp (le-ltb 0 (p .id) i, le-ltb 0 (p .rank) r, le-ltb 0 (p .attempts) t)
-
-  pub unfit-attempts : 255 < p .attempts → true ≡ unfit p
-  unfolding unfit
-  unfit-attempts h = simp (lt-ltb 255 (p .attempts) h)
-
-  pub unfit-acked : p .attempts ≤ 255 → p .attempts < p .acked → true ≡ unfit p
-  unfolding unfit
-  unfit-acked h k = simp (le-ltb 255 (p .attempts) h, lt-ltb (p .attempts) (p .acked) k)
-
-  module _ (h : p .attempts ≤ 255) (k : p .acked ≤ p .attempts) where
-    pub unfit-used : p .used ≡ true → false ≡ unfit p
-    unfolding unfit free
-    unfit-used u = simp (le-ltb 255 (p .attempts) h, le-ltb (p .attempts) (p .acked) k, u)
-
-    pub unfit-free : (x : Bool) → p .used ≡ false → x ≡ nonzero p → x ≡ unfit p
-    unfolding unfit free
-    unfit-free x u f = simp (le-ltb 255 (p .attempts) h, le-ltb (p .attempts) (p .acked) k, u, f)
+  pub unfit-is : (x : Bool) → x ≡ nonzero p → (ltb 255 (p .attempts) || (ltb (p .attempts) (p .acked) || (not (p .used) && x))) ≡ unfit p
+  unfolding unfit free
+  unfit-is x e = ap (λ (z : Bool). ltb 255 (p .attempts) || (ltb (p .attempts) (p .acked) || (not (p .used) && z))) e
 
 -- ---- walking the places: what is left gives what the whole gives
 module _ (f : Place → Bool) (ps : List Place) (i : ℕ) (w x : Bool) where
@@ -86,18 +54,33 @@ pub some-end : (f : Place → Bool) (ps : List Place) (i n : ℕ) (w : Bool) →
 unfolding some
 some-end f ps i n w e l h = let k : length ps ≤ i = omega arith in rw (drop-of-length-le ps k) at h
 
-module _ (f : Place → Bool) (ps : List Place) (i w : ℕ) (x : Bool) where
-  pub first-next : i < length ps → firstFrom f i ps ≡ w → x ≡ f (getD ps i blank) → x ≡ false → firstFrom f (i + 1) ps ≡ w
-  unfolding first firstFrom
-  first-next l h e u = rw add-one (let k : i + suc (first f (drop (suc i) ps)) ≡ w = rw (drop-cons ps i blank l, ← e, u) at h in omega arith)
+-- ---- the walk from the end: the first place from here on
+pub first-start : (f : Place → Bool) (ps : List Place) → length ps ≡ 32 → 32 ≡ 32 + first f (drop 32 ps)
+unfolding first
+first-start f ps e = let l : length ps ≤ 32 = omega arith in rw (drop-of-length-le ps l) (omega arith)
 
-  pub first-found : i < length ps → firstFrom f i ps ≡ w → x ≡ f (getD ps i blank) → x ≡ true → i ≡ w
-  unfolding first firstFrom
-  first-found l h e u = let k : i + 0 ≡ w = rw (drop-cons ps i blank l, ← e, u) at h in omega arith
+module _ (ps : List Place) (i w r : ℕ) (h : 0 < i) (g : i ≤ 32) (l : length ps ≡ 32) where
+  back : (f : Place → Bool) → w ≡ i + first f (drop i ps) → r ≡ cond (f (getD ps (i - 1) blank)) (i - 1) w → r ≡ (i - 1) + first f (drop (i - 1) ps)
+  unfolding first
+  back f e k =
+      let m : w ≡ suc (i - 1) + first f (drop (suc (i - 1)) ps) = subst (λ (z : ℕ). w ≡ z + first f (drop z ps)) (omega arith) e in
+      by-test (f (getD ps (i - 1) blank))
+      (λ u. let v : r ≡ i - 1 = rw u at k in rw (drop-cons ps (i - 1) blank (omega arith), u) (omega arith))
+      (λ u. let v : r ≡ w = rw u at k in rw (drop-cons ps (i - 1) blank (omega arith), u) (omega arith))
 
-pub first-end : (f : Place → Bool) (ps : List Place) (i n w : ℕ) → length ps ≡ n → n ≤ i → firstFrom f i ps ≡ w → i ≡ w
-unfolding first firstFrom
-first-end f ps i n w e l h = let m : length ps ≤ i = omega arith in let g : i + 0 ≡ w = rw (drop-of-length-le ps m) at h in omega arith
+  pub named-back : (n : ℕ) (x : Bool) → w ≡ i + first (named n) (drop i ps) → x ≡ named n (getD ps (i - 1) blank) → r ≡ cond x (i - 1) w → r ≡ (i - 1) + first (named n) (drop (i - 1) ps)
+  named-back n x e k d = back (named n) e (d ∙ ap (λ (z : Bool). cond z (i - 1) w) k)
+
+  pub free-back : w ≡ i + first free (drop i ps) → r ≡ cond (getD ps (i - 1) blank .used) w (i - 1) → r ≡ (i - 1) + first free (drop (i - 1) ps)
+  unfolding free
+  free-back e d = back free e (by-test (getD ps (i - 1) blank .used) (λ u. rw u (rw u at d)) (λ u. rw u (rw u at d)))
+
+pub found-is : (ps : List Place) (n at unused i : ℕ) → at ≡ i + first (named n) (drop i ps) → unused ≡ i + first free (drop i ps) → i ≤ 0 → _≡_ {A = Found} (record { at = at; unused = unused }) (found n ps)
+found-is ps n at unused i e f h =
+    let z : i ≡ 0 = omega arith in
+    let a : at ≡ first (named n) ps = let k : at ≡ 0 + first (named n) ps = rw z at e in omega arith in
+    let b : unused ≡ first free ps = let k : unused ≡ 0 + first free ps = rw z at f in omega arith in
+    (λ j. record { at = a j; unused = b j })
 
 -- ---- the best place
 module _ (b p : Place) (c d : ℕ) (e : c ≡ pathCost p) (f : d ≡ pathCost b) where
@@ -147,10 +130,10 @@ clash a e f = absurd (let z : _≡_ {A = ℕ} 0 1 = cc in omega arith)
 
 -- ---- what is found by number is what the definitions speak of
 module _ (f : Place → Bool) where
-  pub found : (ps : List Place) → first f ps < length ps → some f ps ≡ true
+  pub present : (ps : List Place) → first f ps < length ps → some f ps ≡ true
   unfolding first some
-  found [] h = absurd (omega arith)
-  found (p ∷ ps) h = split (f p) (λ e. rw e) (λ e. rw e (found ps (let k : suc (first f ps) < suc (length ps) = rw e at h in omega arith)))
+  present [] h = absurd (omega arith)
+  present (p ∷ ps) h = split (f p) (λ e. rw e) (λ e. rw e (present ps (let k : suc (first f ps) < suc (length ps) = rw e at h in omega arith)))
 
   pub missing : (ps : List Place) → length ps ≤ first f ps → some f ps ≡ false
   unfolding first some
@@ -169,26 +152,6 @@ module _ (f : Place → Bool) where
   set-first g [] = refl
   set-first g (p ∷ ps) = split (f p) (λ e. rw e) (λ e. rw e (ap (λ (l : List Place). p ∷ l) (set-first g ps)))
 
-pub from-0 : (f : Place → Bool) (ps : List Place) → firstFrom f 0 ps ≡ first f ps
-unfolding firstFrom
-from-0 f ps = omega arith
-
--- the same, as the code has it: the number i that the search answered, in an array of n places
-module _ (f : Place → Bool) (ps : List Place) (i n : ℕ) (e₀ : i ≡ firstFrom f 0 ps) (l : length ps ≡ n) where
-  e : i ≡ first f ps
-  e = e₀ ∙ from-0 f ps
-
-  pub some-there : i < n → some f ps ≡ true
-  some-there h = found f ps (omega (arith, e))
-
-  pub some-missing : n ≤ i → some f ps ≡ false
-  some-missing h = missing f ps (omega (arith, e))
-
-  pub set-there : (g : Place → Place) (q : Place) → q ≡ g (getD ps i blank) → set ps i q ≡ changeFirst f g ps
-  set-there g q h =
-      subst (λ (k : ℕ). set ps k q ≡ changeFirst f g ps) (sym e)
-      (subst (λ (z : Place). set ps (first f ps) z ≡ changeFirst f g ps) (sym (h ∙ ap (λ (k : ℕ). g (getD ps k blank)) e)) (set-first f g ps))
-
 -- where no place meets a test, none does at any number
 pub none-at : (f : Place → Bool) (ps : List Place) (i : ℕ) → f blank ≡ false → some f ps ≡ false → f (getD ps i blank) ≡ false
 unfolding some
@@ -204,6 +167,6 @@ fit-limits p e =
     (ltb-false 255 (p .attempts) (n₁ .0), ltb-false (p .attempts) (p .acked) (n₂ .0))
 
 -- one set for each crate of functions over places
-pub ruleset searchWays = (free-not, free-is, named-used, named-free, first-next, first-found, first-end)
+pub ruleset searchWays = (named-used, named-free, first-start, named-back, free-back, found-is)
 
-pub ruleset limitWays = (nonzero-id, nonzero-rank, nonzero-attempts, nonzero-acked, unfit-attempts, unfit-acked, unfit-used, unfit-free)
+pub ruleset limitWays = (nonzero-is, unfit-is)

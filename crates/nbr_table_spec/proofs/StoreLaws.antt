@@ -6,64 +6,76 @@ use mathlib.Core.Bool.{Bool, true, false, _||_}
 use mathlib.Core.List.{List}
 use native.Mathlib.Omega.{arith}
 use lib.ListN.{length, getD, set}
+use lib.Seq.{set-out}
 use lib.Dec.{eqb}
-use borrow.Author.Tests.{eqb-true, not-false}
-use Rattle.octets_spec.specs.Choice.{ifEq}
+use borrow.Author.Tests.{eqb-true, le-ltb, lt-ltb, not-false}
+use Rattle.octets_spec.specs.Choice.{ifEq, ifLt, ifOn}
 use Rattle.octets_spec.proofs.ChoiceLaws.{by-lt, by-test, choices}
 use Rattle.nbr_metric_spec.specs.declared.Place.{Place}
 use Rattle.nbr_metric_spec.specs.Metric.{blank}
+use Rattle.nbr_table_spec.specs.declared.Answer.{Answer}
 use Rattle.nbr_table_spec.specs.declared.Change.{Change}
+use Rattle.nbr_table_spec.specs.declared.Found.{Found}
 use Rattle.nbr_table_spec.specs.declared.Parent.{Parent}
 use Rattle.nbr_table_spec.specs.declared.Parent.the-variants.{None, Held}
 use Rattle.nbr_table_spec.specs.declared.Table.{Table}
-use Rattle.nbr_table_spec.specs.Places.{free, known, named, nonzero, some, twice, unfit}
+use Rattle.nbr_table_spec.specs.Places.{changeFirst, free, known, named, nonzero, some, twice, unfit}
 use Rattle.nbr_table_spec.specs.Changes.{attempted, newcomer, withRank}
-use Rattle.nbr_table_spec.specs.Calls.{advertised, answer, broken, forgotten, parentMissing, reported, withParent, withPlaces, without}
-use Rattle.nbr_table_spec.specs.Stores.{advertising, change, forgetting, freeIndex, indexOf, refusing, reporting}
-use Rattle.nbr_table_spec.proofs.PlaceLaws.{clash, length-mapped, neither, none-at, some-missing}
-use Rattle.nbr_table_spec.proofs.CallLaws.{advertised-broken, advertised-full, advertised-known, advertised-new, attempted-halved, attempted-plain, fit-attempts, fit-acked, forgotten-broken, forgotten-known, forgotten-unknown, newcomer-is, place-out, reported-broken, reported-known, reported-many, reported-none, reported-unknown, without-none, without-other, without-same}
+use Rattle.nbr_table_spec.specs.Calls.{advertised, answer, broken, forgotten, parentMissing, reported, without}
+use Rattle.nbr_table_spec.specs.Stores.{advertising, change, first, forgetting, found, freeIndex, indexOf, refusing, reporting, stored}
+use Rattle.nbr_table_spec.proofs.PlaceLaws.{clash, length-mapped, missing, neither, none-at, present, set-first}
+use Rattle.nbr_table_spec.proofs.CallLaws.{attempted-halved, attempted-plain, fit-attempts, fit-acked, newcomer-is, without-none, without-other, without-same}
 
 pub refusing-is : (number : ℕ) (b : Place) → b ≡ blank → change number 32 b ≡ refusing number
 refusing-is number b e = ap (change number 32) e
 
 -- ---- the code of each call; c is what a call that refuses answered
-module _ (ps : List Place) (n i : ℕ) (s : i ≡ indexOf n ps) where
-  module _ (w : i < 32) where
-    pub advertising-known : (rank : ℕ) (p : Place) → p ≡ withRank rank (getD ps i blank) → change 0 i p ≡ advertising ps n rank
+module _ (ps : List Place) (n : ℕ) (f : Found) (s : f ≡ found n ps) where
+  index : f .at ≡ indexOf n ps
+  index = ap (λ (z : Found). z .at) s
+
+  module _ (w : f .at < 32) where
+    pub advertising-known : (rank : ℕ) (p : Place) → p ≡ withRank rank (getD ps (f .at) blank) → change 0 (f .at) p ≡ advertising ps n rank
     unfolding advertising
-    advertising-known rank p f = rw (← s) (let g : change 0 i p ≡ change 0 i (withRank rank (getD ps i blank)) = ap (change 0 i) f in search choices)
+    advertising-known rank p g = rw (← index) (let h : change 0 (f .at) p ≡ change 0 (f .at) (withRank rank (getD ps (f .at) blank)) = ap (change 0 (f .at)) g in search choices)
 
-    pub forgetting-known : (b : Place) → b ≡ blank → change 0 i b ≡ forgetting ps n
+    pub forgetting-known : (b : Place) → b ≡ blank → change 0 (f .at) b ≡ forgetting ps n
     unfolding forgetting
-    forgetting-known b f = rw (← s) (let g : change 0 i b ≡ change 0 i blank = ap (change 0 i) f in search choices)
+    forgetting-known b g = rw (← index) (let h : change 0 (f .at) b ≡ change 0 (f .at) blank = ap (change 0 (f .at)) g in search choices)
 
-    module _ (k : ℕ) (ok : Bool) (x : Bool) (g : 1 ≤ k) (h : k ≤ 4) (e : x ≡ unfit (getD ps i blank)) where
+    module _ (k : ℕ) (ok : Bool) (x : Bool) (g : 1 ≤ k) (h : k ≤ 4) (e : x ≡ unfit (getD ps (f .at) blank)) where
       pub reporting-unfit : (c : Change) → x ≡ true → c ≡ refusing 8 → c ≡ reporting ps n k ok
       unfolding reporting
-      reporting-unfit c u f = rw (← s) (let a : unfit (getD ps i blank) ≡ true = sym e ∙ u in search choices)
+      reporting-unfit c u d = rw (← index) (let a : unfit (getD ps (f .at) blank) ≡ true = sym e ∙ u in search choices)
 
-      pub reporting-known : (p : Place) → x ≡ false → p ≡ attempted k ok (getD ps i blank) → change 0 i p ≡ reporting ps n k ok
+      pub reporting-known : (p : Place) → x ≡ false → p ≡ attempted k ok (getD ps (f .at) blank) → change 0 (f .at) p ≡ reporting ps n k ok
       unfolding reporting
-      reporting-known p u f =
-          rw (← s) (let a : unfit (getD ps i blank) ≡ false = sym e ∙ u in let c : change 0 i p ≡ change 0 i (attempted k ok (getD ps i blank)) = ap (change 0 i) f in search choices)
+      reporting-known p u d =
+          rw (← index)
+          (let a : unfit (getD ps (f .at) blank) ≡ false = sym e ∙ u in
+          let c : change 0 (f .at) p ≡ change 0 (f .at) (attempted k ok (getD ps (f .at) blank)) = ap (change 0 (f .at)) d in
+          search choices)
 
-  module _ (w : 32 ≤ i) where
-    module _ (j : ℕ) (m : j ≡ freeIndex ps) (rank : ℕ) where
-      pub advertising-new : (p : Place) → j < 32 → p ≡ newcomer n rank → change 0 j p ≡ advertising ps n rank
-      unfolding advertising
-      advertising-new p h f = rw (← s, ← m) (let g : change 0 j p ≡ change 0 j (newcomer n rank) = ap (change 0 j) f in search choices)
+  module _ (w : 32 ≤ f .at) where
+    module _ (rank : ℕ) where
+      unused : f .unused ≡ freeIndex ps
+      unused = ap (λ (z : Found). z .unused) s
 
-      pub advertising-full : (c : Change) → 32 ≤ j → c ≡ refusing 11 → c ≡ advertising ps n rank
+      pub advertising-new : (p : Place) → f .unused < 32 → p ≡ newcomer n rank → change 0 (f .unused) p ≡ advertising ps n rank
       unfolding advertising
-      advertising-full c h f = rw (← s, ← m) (search choices)
+      advertising-new p h g = rw (← index, ← unused) (let d : change 0 (f .unused) p ≡ change 0 (f .unused) (newcomer n rank) = ap (change 0 (f .unused)) g in search choices)
+
+      pub advertising-full : (c : Change) → 32 ≤ f .unused → c ≡ refusing 11 → c ≡ advertising ps n rank
+      unfolding advertising
+      advertising-full c h g = rw (← index, ← unused) (search choices)
 
     pub reporting-unknown : (k : ℕ) (ok : Bool) (c : Change) → 1 ≤ k → k ≤ 4 → c ≡ refusing 10 → c ≡ reporting ps n k ok
     unfolding reporting
-    reporting-unknown k ok c g h f = rw (← s) (search choices)
+    reporting-unknown k ok c g h d = rw (← index) (search choices)
 
     pub forgetting-unknown : (c : Change) → c ≡ refusing 10 → c ≡ forgetting ps n
     unfolding forgetting
-    forgetting-unknown c f = rw (← s) (search choices)
+    forgetting-unknown c g = rw (← index) (search choices)
 
 module _ (ps : List Place) (n k : ℕ) (ok : Bool) (c : Change) (f : c ≡ refusing 8) where
   pub reporting-none : k < 1 → c ≡ reporting ps n k ok
@@ -75,96 +87,105 @@ module _ (ps : List Place) (n k : ℕ) (ok : Bool) (c : Change) (f : c ≡ refus
   reporting-many g h = search choices
 
 -- ---- the table so stored is the one of the rules
-abbrev stored : Table → Change → Table
-stored t c = withPlaces t (set (t .places) (c .at) (c .place))
-
-module _ (t : Table) (b : broken t ≡ false) (l : length (t .places) ≡ 32) where
+module _ (t : Table) (l : length (t .places) ≡ 32) where
   -- a refusal stores nothing
-  nothing-stored : (number : ℕ) → answer number (stored t (refusing number)) ≡ answer number t
-  nothing-stored number = ap (answer number) (sym (place-out t 32 blank l (omega arith)))
+  nothing-stored : (number : ℕ) (q : Parent) → q ≡ t .parent → answer number (record { places = set (t .places) 32 blank; parent = q }) ≡ answer number t
+  nothing-stored number q e = ap (λ (ps : List Place). answer number (record { places = ps; parent = q })) (set-out (t .places) 32 blank (omega arith)) ∙ ap (λ (p : Parent). answer number (record { places = t .places; parent = p })) e
 
-  -- no place is over its limits
-  all-fit : (i : ℕ) → unfit (getD (t .places) i blank) ≡ false
-  unfolding broken unfit free nonzero
-  all-fit i = none-at unfit (t .places) i refl (neither (some unfit (t .places)) (twice (t .places) || parentMissing (t .parent) (t .places)) b .0)
+  -- the first place that passes a test is changed
+  one-stored : (f : Place → Bool) (g : Place → Place) (q : Parent) → answer 0 (record { places = set (t .places) (first f (t .places)) (g (getD (t .places) (first f (t .places)) blank)); parent = q }) ≡ answer 0 (record { places = changeFirst f g (t .places); parent = q })
+  one-stored f g q = ap (λ (ps : List Place). answer 0 (record { places = ps; parent = q })) (set-first f g (t .places))
 
-  -- a neighbour that is not in the table is not the held parent
+  some-at : (f : Place → Bool) → first f (t .places) < 32 → some f (t .places) ≡ true
+  some-at f w = present f (t .places) (omega arith)
+
+  none-below : (f : Place → Bool) → 32 ≤ first f (t .places) → some f (t .places) ≡ false
+  none-below f w = missing f (t .places) (omega arith)
+
+  pub advertised-stored : (n rank : ℕ) → stored t (advertising (t .places) n rank) (t .parent) ≡ advertised t n rank
+  unfolding stored advertising advertised ifOn ifLt
+  advertised-stored n rank =
+      by-test (broken t) (λ b. rw b)
+      (λ b.
+      by-lt (indexOf n (t .places)) 32
+      (λ w. rw (b, lt-ltb (indexOf n (t .places)) 32 w, some-at (named n) w) (one-stored (named n) (withRank rank) (t .parent)))
+      (λ w.
+      by-lt (freeIndex (t .places)) 32
+      (λ f. rw (b, le-ltb (indexOf n (t .places)) 32 w, lt-ltb (freeIndex (t .places)) 32 f, none-below (named n) w, some-at free f) (one-stored free (λ p. newcomer n rank) (t .parent)))
+      (λ f. rw (b, le-ltb (indexOf n (t .places)) 32 w, le-ltb (freeIndex (t .places)) 32 f, none-below (named n) w, none-below free f) (nothing-stored 11 (t .parent) refl))))
+
+  -- in a table that breaks no rule no place is over its limits, and a neighbour that is not in it is not the held parent
+  module _ (b : broken t ≡ false) where
+    all-fit : (i : ℕ) → unfit (getD (t .places) i blank) ≡ false
+    unfolding broken unfit free nonzero
+    all-fit i = none-at unfit (t .places) i refl (neither (some unfit (t .places)) (twice (t .places) || parentMissing (t .parent) (t .places)) b .0)
+
+    parent-there : parentMissing (t .parent) (t .places) ≡ false
+    unfolding broken
+    parent-there =
+        neither (twice (t .places)) (parentMissing (t .parent) (t .places)) (neither (some unfit (t .places)) (twice (t .places) || parentMissing (t .parent) (t .places)) b .1) .1
+
   without-unknown : (n : ℕ) (q : Parent) → parentMissing q (t .places) ≡ false → known n (t .places) ≡ false → without n q ≡ q
   unfolding parentMissing without ifEq
   without-unknown n None h k = refl
   without-unknown n (Held m) h k =
       by-test (eqb m n) (λ e. clash (known n (t .places)) (subst (λ (z : ℕ). known z (t .places) ≡ true) (eqb-true m n e) (not-false (known m (t .places)) h)) k) (λ e. rw e)
 
-  module _ (n : ℕ) (c : Change) (v : Table) where
-    by-change : (d : Change) → c ≡ d → v ≡ stored t c → answer (c .number) v ≡ answer (d .number) (stored t d)
-    by-change d e h = ap (answer (c .number)) h ∙ ap (λ (z : Change). answer (z .number) (stored t z)) e
+  pub reported-stored : (n k : ℕ) (ok : Bool) → stored t (reporting (t .places) n k ok) (t .parent) ≡ reported t n k ok
+  unfolding stored reporting reported ifOn ifLt
+  reported-stored n k ok =
+      by-test (broken t) (λ b. rw b)
+      (λ b.
+      by-lt k 1 (λ g. rw (b, lt-ltb k 1 g) (nothing-stored 8 (t .parent) refl))
+      (λ g.
+      by-lt 4 k (λ m. rw (b, le-ltb k 1 g, lt-ltb 4 k m) (nothing-stored 8 (t .parent) refl))
+      (λ m.
+      by-lt (indexOf n (t .places)) 32
+      (λ w.
+      rw (b, le-ltb k 1 g, le-ltb 4 k m, lt-ltb (indexOf n (t .places)) 32 w, all-fit b (indexOf n (t .places)), some-at (named n) w)
+      (one-stored (named n) (attempted k ok) (t .parent)))
+      (λ w. rw (b, le-ltb k 1 g, le-ltb 4 k m, le-ltb (indexOf n (t .places)) 32 w, none-below (named n) w) (nothing-stored 10 (t .parent) refl)))))
 
-    pub advertised-by : (rank : ℕ) → c ≡ advertising (t .places) n rank → v ≡ stored t c → answer (c .number) v ≡ advertised t n rank
-    advertised-by rank e h =
-        let ps = t .places in
-        by-lt (indexOf n ps) 32
-        (λ w.
-        by-change _ (e ∙ sym (advertising-known ps n (indexOf n ps) refl w rank _ refl)) h
-        ∙ advertised-known t n (broken t) refl b (indexOf n ps) refl l w rank _ _ refl refl)
-        (λ w.
-        by-lt (freeIndex ps) 32
-        (λ f.
-        by-change _ (e ∙ sym (advertising-new ps n (indexOf n ps) refl w (freeIndex ps) refl rank _ f refl)) h
-        ∙ advertised-new t n (broken t) refl b (indexOf n ps) refl l w (freeIndex ps) refl rank _ _ f refl refl)
-        (λ f.
-        by-change (refusing 11) (e ∙ sym (advertising-full ps n (indexOf n ps) refl w (freeIndex ps) refl rank (refusing 11) f refl)) h
-        ∙ nothing-stored 11 ∙ advertised-full t n (broken t) refl b (indexOf n ps) refl l w (freeIndex ps) refl rank f))
+  pub forgotten-stored : (n : ℕ) → stored t (forgetting (t .places) n) (without n (t .parent)) ≡ forgotten t n
+  unfolding stored forgetting forgotten ifOn ifLt
+  forgotten-stored n =
+      by-test (broken t) (λ b. rw b)
+      (λ b.
+      by-lt (indexOf n (t .places)) 32
+      (λ w. rw (b, lt-ltb (indexOf n (t .places)) 32 w, some-at (named n) w) (one-stored (named n) (λ p. blank) (without n (t .parent))))
+      (λ w.
+      rw (b, le-ltb (indexOf n (t .places)) 32 w, none-below (named n) w)
+      (nothing-stored 10 (without n (t .parent)) (without-unknown n (t .parent) (parent-there b) (none-below (named n) w)))))
 
-    pub reported-by : (k : ℕ) (ok : Bool) → c ≡ reporting (t .places) n k ok → v ≡ stored t c → answer (c .number) v ≡ reported t n k ok
-    reported-by k ok e h =
-        let ps = t .places in
-        by-lt k 1
-        (λ g. by-change (refusing 8) (e ∙ sym (reporting-none ps n k ok (refusing 8) refl g)) h ∙ nothing-stored 8 ∙ reported-none t n (broken t) refl b k ok g)
-        (λ g.
-        by-lt 4 k
-        (λ m. by-change (refusing 8) (e ∙ sym (reporting-many ps n k ok (refusing 8) refl g m)) h ∙ nothing-stored 8 ∙ reported-many t n (broken t) refl b k ok g m)
-        (λ m.
-        by-lt (indexOf n ps) 32
-        (λ w.
-        by-change _ (e ∙ sym (reporting-known ps n (indexOf n ps) refl w k ok false g m (sym (all-fit (indexOf n ps))) _ refl refl)) h
-        ∙ reported-known t n (broken t) refl b (indexOf n ps) refl l w k ok _ _ g m refl refl)
-        (λ w.
-        by-change (refusing 10) (e ∙ sym (reporting-unknown ps n (indexOf n ps) refl w k ok (refusing 10) g m refl)) h
-        ∙ nothing-stored 10 ∙ reported-unknown t n (broken t) refl b (indexOf n ps) refl l w k ok g m)))
+-- ---- storing, as the code meets it
+module _ (t : Table) (c : Change) (q : Parent) (x : Bool) (e : x ≡ broken t) where
+  pub store-refused : x ≡ true → answer 8 t ≡ stored t c q
+  unfolding stored
+  store-refused u = let b : broken t ≡ true = sym e ∙ u in search choices
 
-    pub forgotten-by : (q : Parent) (z : Table) → c ≡ forgetting (t .places) n → q ≡ without n (t .parent) → v ≡ stored t c → z ≡ withParent v q → answer (c .number) z ≡ forgotten t n
-    unfolding broken
-    forgotten-by q z e f h g =
-        let ps = t .places in
-        let n₁ = neither (some unfit ps) (twice ps || parentMissing (t .parent) ps) b in
-        let n₂ = neither (twice ps) (parentMissing (t .parent) ps) (n₁ .1) in
-        let k : answer (c .number) z ≡ answer (c .number) (withParent (stored t c) (without n (t .parent))) =
-        ap (answer (c .number)) (g ∙ ap (withParent v) f ∙ ap (λ (y : Table). withParent y (without n (t .parent))) h) in
-        let m : (d : Change) → c ≡ d → answer (c .number) z ≡ answer (d .number) (withParent (stored t d) (without n (t .parent))) =
-        (λ d r. k ∙ ap (λ (y : Change). answer (y .number) (withParent (stored t y) (without n (t .parent)))) r) in
-        by-lt (indexOf n ps) 32
-        (λ w.
-        m _ (e ∙ sym (forgetting-known ps n (indexOf n ps) refl w blank refl))
-        ∙ forgotten-known t n (broken t) refl b (indexOf n ps) refl l w (without n (t .parent)) _ _ blank refl refl refl refl)
-        (λ w.
-        m (refusing 10) (e ∙ sym (forgetting-unknown ps n (indexOf n ps) refl w (refusing 10) refl))
-        ∙ ap (λ (y : Parent). answer 10 (withParent (stored t (refusing 10)) y)) (without-unknown n (t .parent) (n₂ .1) (some-missing (named n) ps (indexOf n ps) 32 refl l w))
-        ∙ nothing-stored 10 ∙ forgotten-unknown t n (broken t) refl b (indexOf n ps) refl l w)
+  pub store-place : x ≡ false → answer (c .number) (record { places = set (t .places) (c .at) (c .place); parent = q }) ≡ stored t c q
+  unfolding stored
+  store-place u = let b : broken t ≡ false = sym e ∙ u in search choices
 
--- the same where a test of the code said that no rule is broken
-module _ (t : Table) (x : Bool) (a : x ≡ broken t) (u : x ≡ false) (l : length (t .places) ≡ 32) (n : ℕ) (c : Change) (v : Table) (h : v ≡ stored t c) where
-  pub advertised-stored : (rank : ℕ) → c ≡ advertising (t .places) n rank → answer (c .number) v ≡ advertised t n rank
-  advertised-stored rank e = advertised-by t (sym a ∙ u) l n c v rank e h
+  pub store-nothing : x ≡ false → length (t .places) ≡ 32 → 32 ≤ c .at → answer (c .number) (record { places = t .places; parent = q }) ≡ stored t c q
+  store-nothing u l h = ap (λ (ps : List Place). answer (c .number) (record { places = ps; parent = q })) (sym (set-out (t .places) (c .at) (c .place) (omega arith))) ∙ store-place u
 
-  pub reported-stored : (k : ℕ) (ok : Bool) → c ≡ reporting (t .places) n k ok → answer (c .number) v ≡ reported t n k ok
-  reported-stored k ok e = reported-by t (sym a ∙ u) l n c v k ok e h
+-- the calls, as the code meets them
+module _ (t : Table) (n : ℕ) (c : Change) (l : length (t .places) ≡ 32) (r : Answer) where
+  pub advertise-done : (rank : ℕ) → c ≡ advertising (t .places) n rank → r ≡ stored t c (t .parent) → r ≡ advertised t n rank
+  advertise-done rank e f = f ∙ ap (λ (z : Change). stored t z (t .parent)) e ∙ advertised-stored t l n rank
 
-  pub forgotten-stored : (q : Parent) (z : Table) → c ≡ forgetting (t .places) n → q ≡ without n (t .parent) → z ≡ withParent v q → answer (c .number) z ≡ forgotten t n
-  forgotten-stored q z e f g = forgotten-by t (sym a ∙ u) l n c v q z e f h g
+  pub report-done : (k : ℕ) (ok : Bool) → c ≡ reporting (t .places) n k ok → r ≡ stored t c (t .parent) → r ≡ reported t n k ok
+  report-done k ok e f = f ∙ ap (λ (z : Change). stored t z (t .parent)) e ∙ reported-stored t l n k ok
+
+  pub forget-done : (q : Parent) → c ≡ forgetting (t .places) n → q ≡ without n (t .parent) → r ≡ stored t c q → r ≡ forgotten t n
+  forget-done q e g f = f ∙ ap (λ (z : Parent). stored t c z) g ∙ ap (λ (z : Change). stored t z (without n (t .parent))) e ∙ forgotten-stored t l n
 
 -- one set for each call
-pub ruleset advertiseWays = (length-mapped, newcomer-is, refusing-is, advertising-known, advertising-new, advertising-full, advertised-broken, advertised-stored)
+pub ruleset storeWays = (length-mapped, refusing-is, store-refused, store-place, store-nothing)
 
-pub ruleset reportWays = (length-mapped, refusing-is, attempted-halved, attempted-plain, fit-attempts, fit-acked, reporting-none, reporting-many, reporting-unfit, reporting-known, reporting-unknown, reported-broken, reported-stored)
+pub ruleset advertiseWays = (length-mapped, newcomer-is, advertising-known, advertising-new, advertising-full, advertise-done)
 
-pub ruleset forgetWays = (length-mapped, refusing-is, without-none, without-same, without-other, forgetting-known, forgetting-unknown, forgotten-broken, forgotten-stored)
+pub ruleset reportWays = (length-mapped, attempted-halved, attempted-plain, fit-attempts, fit-acked, reporting-none, reporting-many, reporting-unfit, reporting-known, reporting-unknown, report-done)
+
+pub ruleset forgetWays = (length-mapped, without-none, without-same, without-other, forgetting-known, forgetting-unknown, forget-done)

@@ -1,5 +1,4 @@
 pub mod Places
-pub mod Search
 pub mod Changes
 pub mod Calls
 pub mod Stores

@@ -42,6 +42,12 @@ pub struct Change {
     pub place: Place,
 }
 
+// Where a neighbour stands, and the lowest-numbered free place, by number; 32 where there is none.
+pub struct Found {
+    pub at: usize,
+    pub unused: usize,
+}
+
 // What a neighbour offers a node as its own rank, and its identifier (specs/Offers.antt).
 pub struct Offer {
     pub cost: u32,

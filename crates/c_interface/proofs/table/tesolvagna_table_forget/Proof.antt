@@ -4,35 +4,22 @@ use borrow.Author.Needs.{needs}
 use Rattle.c_interface.proofs.table.tesolvagna_table_forget.Statement.{statement}
 use Rattle.c_interface.proofs.table.tesolvagna_table_forget.Tie as tie
 
-is-refused-requires : tie.Need-is-refused-requires
-is-refused-requires c κs = search needs
-
-returns : tie.Need-returns
-returns c = search (needs, callWays)
+parent-of-requires : tie.Need-parent-of-requires
+parent-of-requires c κs = search needs
 
 forgetting-requires : tie.Need-forgetting-requires
 forgetting-requires c κs = search needs
 
-stored-requires : tie.Need-stored-requires
-stored-requires c κs = search needs
-
-parent-of-requires : tie.Need-parent-of-requires
-parent-of-requires c κs = search needs
-
 without-requires : tie.Need-without-requires
 without-requires c κs = search needs
 
-mark-of-requires : tie.Need-mark-of-requires
-mark-of-requires c κs = search needs
+stored-requires : tie.Need-stored-requires
+stored-requires c κs = search needs
 
-id-of-requires : tie.Need-id-of-requires
-id-of-requires c κs = search needs
-
-returns-2 : tie.Need-returns-2
-returns-2 c = search (needs, callWays)
+returns : tie.Need-returns
+returns c = search (needs, callWays)
 
 pub tesolvagna-table-forget-spec : {M : Type 1} → statement M
 tesolvagna-table-forget-spec =
     tie.close
-    (tie.spec is-refused-requires returns forgetting-requires stored-requires parent-of-requires without-requires
-    mark-of-requires id-of-requires returns-2)
+    (tie.spec parent-of-requires forgetting-requires without-requires stored-requires returns)

@@ -4,8 +4,8 @@ use borrow.Author.Needs.{needs}
 use Rattle.nbr_calls.proofs.advertise.advertising.Statement.{statement}
 use Rattle.nbr_calls.proofs.advertise.advertising.Tie as tie
 
-find-requires : tie.Need-find-requires
-find-requires c κs = search needs
+seek-requires : tie.Need-seek-requires
+seek-requires c κs = search needs
 
 mul-with-rank : tie.Need-mul-with-rank
 mul-with-rank c = search needs
@@ -18,9 +18,6 @@ with-rank-requires c κs = search needs
 
 returns : tie.Need-returns
 returns c = search (needs, advertiseWays)
-
-find-free-requires : tie.Need-find-free-requires
-find-free-requires c κs = search needs
 
 newcomer-requires : tie.Need-newcomer-requires
 newcomer-requires c κs = search needs
@@ -37,5 +34,5 @@ returns-3 c = search (needs, advertiseWays)
 pub advertising-spec : {M : Type 1} → statement M
 advertising-spec =
     tie.close
-    (tie.spec find-requires mul-with-rank array-copy-out-with-rank with-rank-requires returns find-free-requires
-    newcomer-requires returns-2 refuse-requires returns-3)
+    (tie.spec seek-requires mul-with-rank array-copy-out-with-rank with-rank-requires returns newcomer-requires
+    returns-2 refuse-requires returns-3)

@@ -13,12 +13,8 @@ returns c = search (needs, evaluateWays)
 settle-requires : tie.Need-settle-requires
 settle-requires c κs = search needs
 
-with-parent-requires : tie.Need-with-parent-requires
-with-parent-requires c κs = search needs
-
 returns-2 : tie.Need-returns-2
 returns-2 c = search (needs, evaluateWays)
 
 pub evaluate-spec : {M : Type 1} → statement M
-evaluate-spec =
-    tie.close (tie.spec is-broken-requires returns settle-requires with-parent-requires returns-2)
+evaluate-spec = tie.close (tie.spec is-broken-requires returns settle-requires returns-2)

@@ -4,8 +4,8 @@ use borrow.Author.Needs.{needs}
 use Rattle.nbr_calls.proofs.forget.forgetting.Statement.{statement}
 use Rattle.nbr_calls.proofs.forget.forgetting.Tie as tie
 
-find-requires : tie.Need-find-requires
-find-requires c κs = search needs
+seek-requires : tie.Need-seek-requires
+seek-requires c κs = search needs
 
 blank-requires : tie.Need-blank-requires
 blank-requires c κs = search needs
@@ -21,4 +21,4 @@ returns-2 c = search (needs, forgetWays)
 
 pub forgetting-spec : {M : Type 1} → statement M
 forgetting-spec =
-    tie.close (tie.spec find-requires blank-requires returns refuse-requires returns-2)
+    tie.close (tie.spec seek-requires blank-requires returns refuse-requires returns-2)

@@ -16,8 +16,8 @@ refuse-requires-2 c κs = search needs
 returns-2 : tie.Need-returns-2
 returns-2 c = search (needs, reportWays)
 
-find-requires : tie.Need-find-requires
-find-requires c κs = search needs
+seek-requires : tie.Need-seek-requires
+seek-requires c κs = search needs
 
 mul-place : tie.Need-mul-place
 mul-place c = search needs
@@ -52,6 +52,6 @@ returns-5 c = search (needs, reportWays)
 pub reporting-spec : {M : Type 1} → statement M
 reporting-spec =
     tie.close
-    (tie.spec refuse-requires returns refuse-requires-2 returns-2 find-requires mul-place array-copy-out-place
+    (tie.spec refuse-requires returns refuse-requires-2 returns-2 seek-requires mul-place array-copy-out-place
     is-unfit-requires refuse-requires-3 returns-3 cast-attempted attempted-requires returns-4 refuse-requires-4
     returns-5)

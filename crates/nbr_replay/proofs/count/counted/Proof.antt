@@ -19,13 +19,9 @@ rises-with-requires c κs = search needs
 first-with-requires : tie.Need-first-with-requires
 first-with-requires c κs = search needs
 
-eligible-with-requires : tie.Need-eligible-with-requires
-eligible-with-requires c κs = search needs
-
 returns-2 : tie.Need-returns-2
 returns-2 c = search (needs, countWays)
 
 pub counted-spec : {M : Type 1} → statement M
 counted-spec =
-    tie.close
-    (tie.spec returns add-t5 add-t6 rises-with-requires first-with-requires eligible-with-requires returns-2)
+    tie.close (tie.spec returns add-t5 add-t6 rises-with-requires first-with-requires returns-2)

@@ -7,8 +7,8 @@ use Rattle.nbr_replay.proofs.step.step.Tie as tie
 advertising-requires : tie.Need-advertising-requires
 advertising-requires c κs = search needs
 
-unseen-requires : tie.Need-unseen-requires
-unseen-requires c κs = search needs
+storing-requires : tie.Need-storing-requires
+storing-requires c κs = search needs
 
 returns : tie.Need-returns
 returns c = search (needs, stepWays)
@@ -16,20 +16,20 @@ returns c = search (needs, stepWays)
 reporting-requires : tie.Need-reporting-requires
 reporting-requires c κs = search needs
 
-unseen-requires-2 : tie.Need-unseen-requires-2
-unseen-requires-2 c κs = search needs
+storing-requires-2 : tie.Need-storing-requires-2
+storing-requires-2 c κs = search needs
 
 returns-2 : tie.Need-returns-2
 returns-2 c = search (needs, stepWays)
 
-forgetting-requires : tie.Need-forgetting-requires
-forgetting-requires c κs = search needs
-
 without-requires : tie.Need-without-requires
 without-requires c κs = search needs
 
-unseen-requires-3 : tie.Need-unseen-requires-3
-unseen-requires-3 c κs = search needs
+forgetting-requires : tie.Need-forgetting-requires
+forgetting-requires c κs = search needs
+
+storing-requires-3 : tie.Need-storing-requires-3
+storing-requires-3 c κs = search needs
 
 returns-3 : tie.Need-returns-3
 returns-3 c = search (needs, stepWays)
@@ -49,6 +49,6 @@ returns-4 c = search (needs, stepWays)
 pub step-spec : {M : Type 1} → statement M
 step-spec =
     tie.close
-    (tie.spec advertising-requires unseen-requires returns reporting-requires unseen-requires-2 returns-2
-    forgetting-requires without-requires unseen-requires-3 returns-3 settle-requires blank-requires seen-requires
+    (tie.spec advertising-requires storing-requires returns reporting-requires storing-requires-2 returns-2
+    without-requires forgetting-requires storing-requires-3 returns-3 settle-requires blank-requires seen-requires
     returns-4)

@@ -7,14 +7,5 @@ use Rattle.nbr_table.proofs.place_limits.is_nonzero.Tie as tie
 returns : tie.Need-returns
 returns c = search (needs, limitWays)
 
-returns-2 : tie.Need-returns-2
-returns-2 c = search (needs, limitWays)
-
-returns-3 : tie.Need-returns-3
-returns-3 c = search (needs, limitWays)
-
-returns-4 : tie.Need-returns-4
-returns-4 c = search (needs, limitWays)
-
 pub is-nonzero-spec : {M : Type 1} → statement M
-is-nonzero-spec = tie.close (tie.spec returns returns-2 returns-3 returns-4)
+is-nonzero-spec = tie.close (tie.spec returns)

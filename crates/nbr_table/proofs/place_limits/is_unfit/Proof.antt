@@ -4,20 +4,11 @@ use borrow.Author.Needs.{needs}
 use Rattle.nbr_table.proofs.place_limits.is_unfit.Statement.{statement}
 use Rattle.nbr_table.proofs.place_limits.is_unfit.Tie as tie
 
-returns : tie.Need-returns
-returns c = search (needs, limitWays)
-
-returns-2 : tie.Need-returns-2
-returns-2 c = search (needs, limitWays)
-
-returns-3 : tie.Need-returns-3
-returns-3 c = search (needs, limitWays)
-
 is-nonzero-requires : tie.Need-is-nonzero-requires
 is-nonzero-requires c κs = search needs
 
-returns-4 : tie.Need-returns-4
-returns-4 c = search (needs, limitWays)
+returns : tie.Need-returns
+returns c = search (needs, limitWays)
 
 pub is-unfit-spec : {M : Type 1} → statement M
-is-unfit-spec = tie.close (tie.spec returns returns-2 returns-3 is-nonzero-requires returns-4)
+is-unfit-spec = tie.close (tie.spec is-nonzero-requires returns)
