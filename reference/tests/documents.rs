@@ -181,7 +181,14 @@ impl Wrong {
     }
 }
 
-/// What every must-fail edit says is wrong: lines `wrong: NAME, in FUNCTION (what)` or `wrong: NAME (what)`.
+/// Whether a crate's proofs have a law of this name.
+fn is_law(of: &str, name: &str) -> bool {
+    let declares = |line: &str| line.trim_start().trim_start_matches("pub ").starts_with(&format!("{name} : "));
+    files(&root().join("crates").join(of).join("proofs"), "antt").iter().any(|path| read(path).lines().any(declares))
+}
+
+/// What every must-fail edit says is wrong: lines `wrong: NAME, in FUNCTION (what)` or, of a definition or a claim,
+/// `wrong: NAME, of LAW (what)`.
 fn wrong_programs() -> Vec<Wrong> {
     let mut found = Vec::new();
     for (of, path) in crate_files("must-fail", "edit") {
@@ -192,7 +199,10 @@ fn wrong_programs() -> Vec<Wrong> {
                 line.split_once(" (").unwrap_or_else(|| panic!("{}: what is wrong in {line}?", path.display()));
             let (name, function) = match said.split_once(", in ") {
                 Some((name, function)) => (name, Some(function.to_string())),
-                None => (said, None),
+                None => match said.split_once(", of ") {
+                    Some((name, law)) if is_law(&of, law) => (name, None),
+                    _ => panic!("{}: no function and no law of the crate in {line}", path.display()),
+                },
             };
             found.push(Wrong { of: of.clone(), name: name.to_string(), function });
         }
