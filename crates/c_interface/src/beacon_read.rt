@@ -14,7 +14,7 @@ pub extern "C" fn tesolvagna_beacon_read(s: &[u8]) -> FormReading
     if found.number != refusal::DONE {
         return FormReading {
             number: found.number,
-            beacon: eb_decode::blank_form(),
+            beacon: eb_record::blank_form(),
         };
     }
     let walk = found.walk;

@@ -5,14 +5,14 @@ use mathlib.Core.Bool.{true}
 use mathlib.Core.List.{List}
 use mathlib.Core.Logic.{inl, inr}
 use native.Mathlib.Omega.{arith}
-use lib.Dec.{lit≤, eqb}
+use lib.Dec.{lit≤}
 use lib.ListN.{length, getD}
 use Rattle.octets_spec.specs.Choice.{ifEq}
 use Rattle.octets_spec.specs.Number.{leAt, beAt}
-use Rattle.octets_spec.specs.Counted.{counted, padded}
+use Rattle.octets_spec.specs.Counted.{counted}
 use Rattle.octets_spec.proofs.ChoiceLaws.{if-ge, if-eq, if-ne, either-eq, choices}
 use Rattle.octets_spec.proofs.CountedLaws.{filling}
-use Rattle.eb_read_spec.specs.Decode.{timingAt, templateAt, joiningAt}
+use Rattle.eb_read_spec.specs.Decode.{timingAt, templateAt}
 use Rattle.eb_read_spec.proofs.DecodeLaws.{synchronizes, timing-two, template-bare, links-at, slotframe-is, network-from, joining-absent, joining-is}
 use Rattle.eb_read_spec.specs.Inside.{TimeslotLength, JoiningInside}
 
@@ -68,24 +68,7 @@ module _ (s : List ℕ) (at to : ℕ) where
   pub joining-there : ((at ≡ 0 → ⊥) → JoiningInside s at to) → (at ≡ 0 → ⊥) → JoiningInside s at to
   joining-there inside some = inside some
 
-  module _ (word : ℕ) (inside : JoiningInside s at to) (high : word / 1073741824 ≡ getD s at 0 / 64) where
-    pub joining-is-present : (address : ℕ) (all : List ℕ) → (at ≡ 0 → ⊥) → word ≡ beAt 4 s at
-        → address ≡ ifEq (word / 1073741824 % 2) 1 (beAt 8 s (at + 4)) 0
-        → all ≡ padded (λ i. getD s (at + (4 + 8 * (word / 1073741824 % 2) + i)) 0) 0 16 (to - at - (4 + 8 * (word / 1073741824 % 2)))
-        → record {
-          present = true;
-          router = eqb (word / 2147483648 % 2) 1;
-          proxied = eqb (word / 1073741824 % 2) 1;
-          proxy = word / 1048576 % 128;
-          rank = word / 256 % 4096;
-          pan = word % 256;
-          address = address;
-          length = to - at - (4 + 8 * (word / 1073741824 % 2));
-          network = all;
-        } ≡ joiningAt s at to
-    joining-is-present address all some e f g =
-        let size : ℕ = to - at - (4 + 8 * (word / 1073741824 % 2)) in
-        let short : size ≡ min size 16 = omega (arith, inside .most, high) in
-        joining-is s at to word _ size address all some e (network-from s at word e) short f g
+  pub joining-short : (word : ℕ) → JoiningInside s at to → word / 1073741824 ≡ getD s at 0 / 64 → let size : ℕ = to - at - (4 + 8 * (word / 1073741824 % 2)) in size ≡ min size 16
+  joining-short word inside high = omega (arith, inside .most)
 
-pub ruleset elements = (choices, filling, synchronizes, timing-two, timing-ten, timing-eleven, timeslot-ordered, timeslot-starts, timings-width, timings-inside, template-bare, template-timed, links-at, slotframe-is, joining-absent, proxy-is, joining-there, joining-is-present)
+pub ruleset elements = (choices, filling, synchronizes, timing-two, timing-ten, timing-eleven, timeslot-ordered, timeslot-starts, timings-width, timings-inside, template-bare, template-timed, links-at, slotframe-is, joining-absent, proxy-is, joining-there, network-from, joining-short, joining-is)

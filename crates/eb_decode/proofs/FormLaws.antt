@@ -22,6 +22,21 @@ use Rattle.eb_read_spec.proofs.InsideLaws.{inside-facts}
 use Rattle.eb_decode.specs.Header.{headerForm}
 use Rattle.eb_decode.specs.declared.header.HeaderForm.{HeaderForm}
 
+-- the form with this header and these elements
+abbrev withHeader : HeaderForm → Synchronization → TimeslotTemplate → ℕ → Slotframe → JoiningInformation → BeaconForm
+withHeader header y t hopping f j = record {
+  sequenced = header .sequenced;
+  sequence = header .sequence;
+  pan = header .pan;
+  extended = header .extended;
+  source = header .source;
+  synchronization = y;
+  timeslot = t;
+  hopping = hopping;
+  slotframe = f;
+  joining = j;
+}
+
 module _ (s : List ℕ) (walk : Walk) (test : Bool) (is : test ≡ liesInside s walk) where
   pub form-blank : (form : BeaconForm) → test ≡ false → form ≡ formOf blankBeacon → form ≡ decodedForm s walk
   unfolding decodedForm
@@ -58,36 +73,14 @@ module _ (s : List ℕ) (walk : Walk) (test : Bool) (is : test ≡ liesInside s 
     pub form-decoded : (header : HeaderForm) (y : Synchronization) (t : TimeslotTemplate) (hopping : ℕ) (f : Slotframe) (j : JoiningInformation) → header ≡ headerForm s
         → y ≡ synchronizationAt s (walk .synchronization) → t ≡ templateAt s (walk .timeslot) (walk .timeslotend - walk .timeslot) → hopping ≡ getD s (walk .hopping) 0
         → f ≡ slotframeAt s (walk .slotframe) → j ≡ joiningAt s (walk .joining) (walk .joiningend)
-        → record {
-          sequenced = header .sequenced;
-          sequence = header .sequence;
-          pan = header .pan;
-          extended = header .extended;
-          source = header .source;
-          synchronization = y;
-          timeslot = t;
-          hopping = hopping;
-          slotframe = f;
-          joining = j;
-        } ≡ decodedForm s walk
+        → withHeader header y t hopping f j ≡ decodedForm s walk
     unfolding decodedForm decoded formOf headerForm
     form-decoded header y t hopping f j e a b c d g = if-on _ _ _ (sym is ∙ on) (rw (e, a, b, c, d, g))
 
 -- a form is a record's if its header is
 pub header-fits : (header : HeaderForm) (y : Synchronization) (t : TimeslotTemplate) (hopping : ℕ) (f : Slotframe) (j : JoiningInformation)
     → ((header .sequenced || eqb (header .sequence) 0) && (header .extended || ltb (header .source) (2 ^ 16))) ≡ true
-    → isBeacon (record {
-      sequenced = header .sequenced;
-      sequence = header .sequence;
-      pan = header .pan;
-      extended = header .extended;
-      source = header .source;
-      synchronization = y;
-      timeslot = t;
-      hopping = hopping;
-      slotframe = f;
-      joining = j;
-    }) ≡ true
+    → isBeacon (withHeader header y t hopping f j) ≡ true
 unfolding isBeacon
 header-fits header y t hopping f j fits = fits
 

@@ -1,7 +1,6 @@
 // Whether the elements that a walk noted lie inside a frame, each with a length that its kind has.
 ghost use mathlib.Core.Path.{_≡_};
-ghost use Prim.Native.Nat.{_<_};
-ghost use Rattle.eb_read_spec.specs.Inside.{bytesInside, isTimeslotLength, timeslotInside, slotframeInside, isJoiningLength, joiningInside, liesInside};
+ghost use Rattle.eb_read_spec.specs.Inside.{bytesInside, timeslotInside, slotframeInside, joiningInside, liesInside};
 
 // The P flag in the first byte of joining information.
 const PROXIED: u64 = 0x40;
@@ -19,22 +18,6 @@ fn bytes_inside(s: &[u8], at: usize, size: usize) -> bool
     true
 }
 
-// Whether a timeslot element may have this many bytes.
-fn is_timeslot_length(size: usize) -> bool
-    ensures { λ r. ⌜ r ≡ isTimeslotLength size ⌝ }
-{
-    if size == 25 {
-        return true;
-    }
-    if size == 27 {
-        return true;
-    }
-    if size == 1 {
-        return true;
-    }
-    false
-}
-
 // Whether a timeslot element that goes from an offset to another lies inside the frame.
 fn timeslot_inside(s: &[u8], at: usize, to: usize) -> bool
     ensures { λ r. ⌜ r ≡ timeslotInside (now (s .entry)) at to ⌝ }
@@ -42,7 +25,8 @@ fn timeslot_inside(s: &[u8], at: usize, to: usize) -> bool
     if s.len() < to {
         return false;
     }
-    is_timeslot_length(octets::span(at, to))
+    let size = octets::span(at, to);
+    (size == 25) | ((size == 27) | (size == 1))
 }
 
 // Whether a slotframe and link element lies inside the frame with all its links.
@@ -59,21 +43,6 @@ fn slotframe_inside(s: &[u8], at: usize) -> bool
     bytes_inside(s, at, 5 + 5 * links)
 }
 
-// Whether joining information may have this many bytes.
-fn is_joining_length(size: usize, proxied: u64) -> bool
-    requires { ⌜ proxied < 2 ⌝ }
-    ensures { λ r. ⌜ r ≡ isJoiningLength size proxied ⌝ }
-{
-    let least = 4 + 8 * proxied as usize;
-    if size < least {
-        return false;
-    }
-    if least + 16 < size {
-        return false;
-    }
-    true
-}
-
 // Whether joining information that goes from an offset to another lies inside the frame.
 fn joining_inside(s: &[u8], at: usize, to: usize) -> bool
     ensures { λ r. ⌜ r ≡ joiningInside (now (s .entry)) at to ⌝ }
@@ -84,7 +53,12 @@ fn joining_inside(s: &[u8], at: usize, to: usize) -> bool
     if s.len() < to {
         return false;
     }
-    is_joining_length(octets::span(at, to), octets::get::byte(s, at) / PROXIED % 2)
+    let size = octets::span(at, to);
+    let least = 4 + 8 * (octets::get::byte(s, at) / PROXIED % 2) as usize;
+    if size < least {
+        return false;
+    }
+    size < least + 17
 }
 
 // Whether all elements that a walk noted lie inside the frame.

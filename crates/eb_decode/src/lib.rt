@@ -2,8 +2,7 @@
 // says whether the noted elements lie inside the frame; behind it everything is read without a test.
 ghost use mathlib.Core.Path.{_≡_};
 ghost use mathlib.Core.Bool.{true};
-ghost use Rattle.eb_record_spec.specs.Record.{blankBeacon};
-ghost use Rattle.eb_record_spec.specs.Form.{formOf, isBeacon};
+ghost use Rattle.eb_record_spec.specs.Form.{isBeacon};
 ghost use Rattle.eb_read_spec.specs.Form.{decodedForm};
 use eb_record_spec::BeaconForm;
 
@@ -11,33 +10,6 @@ mod elements;
 mod fixed;
 mod header;
 pub mod inside;
-
-// The form of the blank record.
-pub fn blank_form() -> BeaconForm
-    ensures { λ r. ⌜ r ≡ formOf blankBeacon ⌝ }
-{
-    BeaconForm {
-        sequenced: false,
-        sequence: 0,
-        pan: 0,
-        extended: false,
-        source: 0,
-        synchronization: eb_record_spec::Synchronization { asn: 0, metric: 0 },
-        timeslot: eb_record_spec::TimeslotTemplate {
-            id: 0,
-            timed: false,
-            timings: [0u32; 12],
-        },
-        hopping: 0,
-        slotframe: eb_record_spec::Slotframe {
-            handle: 0,
-            size: 0,
-            count: 0,
-            links: [eb_record_spec::blank_link(); 16],
-        },
-        joining: eb_record_spec::blank_joining(),
-    }
-}
 
 // The record at the offsets of a walk, and the blank one if an element does not lie inside the frame.
 pub fn decode(s: &[u8], walk: ie_walk_spec::Walk) -> BeaconForm
@@ -59,5 +31,5 @@ pub fn decode(s: &[u8], walk: ie_walk_spec::Walk) -> BeaconForm
             joining: elements::joining_at(s, walk.joining, walk.joiningend),
         };
     }
-    blank_form()
+    eb_record::blank_form()
 }

@@ -70,16 +70,9 @@ fn elements_walk(s: &[u8], head: HeaderListEnd) -> Walk
 fn missing_fault(walk: Walk) -> u8
     ensures { λ r. ⌜ r ≡ missing walk ⌝ }
 {
-    if walk.synchronization == 0 {
-        return refusal::MISSING_OR_TWICE;
-    }
-    if walk.timeslot == 0 {
-        return refusal::MISSING_OR_TWICE;
-    }
-    if walk.hopping == 0 {
-        return refusal::MISSING_OR_TWICE;
-    }
-    if walk.slotframe == 0 {
+    if (walk.synchronization == 0)
+        | ((walk.timeslot == 0) | ((walk.hopping == 0) | (walk.slotframe == 0)))
+    {
         return refusal::MISSING_OR_TWICE;
     }
     refusal::DONE

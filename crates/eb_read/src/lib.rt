@@ -17,7 +17,7 @@ pub fn read(s: &[u8]) -> ReadAnswer
     if found.number != refusal::DONE {
         return ReadAnswer {
             number: found.number,
-            beacon: eb_record_spec::blank(),
+            beacon: eb_record::blank(),
         };
     }
     let walk = found.walk;

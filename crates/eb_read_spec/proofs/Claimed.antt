@@ -2,10 +2,9 @@
 use Prim.Native.Nat.{ℕ, zero, suc, _<_, _≤_}
 use mathlib.Core.Path.{_≡_, refl, sym, _∙_}
 use mathlib.Core.List.{List}
-use native.Mathlib.Nat.{lt-of-not-le}
 use lib.Dec.{lit≤, eqb·suc-zero}
 use lib.ListN.{length}
-use Rattle.octets_spec.specs.Choice.{ifLt, ifEq}
+use Rattle.octets_spec.specs.Choice.{ifEq}
 use Rattle.octets_spec.proofs.ChoiceLaws.{by-lt}
 use Rattle.eb_record_spec.specs.declared.Beacon.{Beacon}
 use Rattle.mac_header_spec.specs.Control.{macHeaderFault}

@@ -2,17 +2,18 @@
 -- Assumes nothing.
 use Prim.Native.Nat.{ℕ, _+_, _-_, _*_, _/_, _%_, _<_, _≤_}
 use mathlib.Core.Path.{_≡_, refl, sym, subst}
-use mathlib.Core.Bool.{Bool, true, false, _&&_}
+use mathlib.Core.Bool.{Bool, true, false, _&&_, _||_}
 use mathlib.Core.List.{List}
 use mathlib.Core.Logic.{inl, inr}
 use native.Mathlib.Omega.{arith}
-use lib.Dec.{T}
+use borrow.Author.Tests.{lt-ltb, le-ltb, eqb-true}
+use lib.Dec.{T, eqb, ltb}
 use lib.ListN.{length, getD}
-use Rattle.octets_spec.specs.Choice.{ifEq}
-use Rattle.octets_spec.proofs.ChoiceLaws.{if-lt, if-ge, if-eq, if-ne, was-ge, was-eq, either-lt, choices}
+use Rattle.octets_spec.specs.Choice.{ifLt}
+use Rattle.octets_spec.proofs.ChoiceLaws.{if-lt, if-ge, if-eq, if-ne, was-ge, by-test, either-lt, choices}
 use Rattle.ie_walk_spec.specs.declared.Walk.{Walk}
 use Rattle.eb_read_spec.specs.Inside.{bytesInside, isTimeslotLength, timeslotInside, slotframeInside, isJoiningLength, joiningInside, liesInside, TimeslotLength, JoiningInside, ElementsInside}
-use Rattle.eb_read_spec.proofs.Each.{each-eq}
+use Rattle.eb_read_spec.proofs.Each.{each-lt, each-eq}
 
 no : false ≡ true → ⊥
 no e = subst T (sym e) tt
@@ -26,12 +27,14 @@ bytes-fit : (s : List ℕ) (at size : ℕ) → bytesInside s at size ≡ true �
 unfolding bytesInside
 bytes-fit s at size e = was-ge _ _ _ _ _ e no .0
 
+length-known : (n : ℕ) → isTimeslotLength n ≡ true → TimeslotLength n
+unfolding isTimeslotLength
+length-known n e =
+    by-test (eqb n 25) (λ t. inl (eqb-true n 25 t)) (λ not-25. by-test (eqb n 27) (λ t. inr (inl (eqb-true n 27 t))) (λ not-27. inr (inr (eqb-true n 1 (rw (not-25, not-27) at e)))))
+
 timeslot-fits : (s : List ℕ) (at to : ℕ) → timeslotInside s at to ≡ true → (to ≤ length s) × TimeslotLength (to - at)
-unfolding timeslotInside isTimeslotLength
-timeslot-fits s at to e =
-    let P : Bool → Type 0 = λ r. r ≡ true → TimeslotLength (to - at) in
-    let ends = was-ge _ _ _ _ _ e no in
-    (ends .0, each-eq P _ _ _ _ (λ long f. inl long) (λ not-25. each-eq P _ _ _ _ (λ long f. inr (inl long)) (λ not-27 f. inr (inr (was-eq _ _ _ _ _ f no .0)))) (ends .1))
+unfolding timeslotInside
+timeslot-fits s at to e = let ends = was-ge _ _ _ _ _ e no in (ends .0, length-known _ (ends .1))
 
 slotframe-fits : (s : List ℕ) (at : ℕ) → slotframeInside s at ≡ true → (getD s (at + 4) 0 ≤ 16) × (at + (5 + 5 * getD s (at + 4) 0) ≤ length s)
 unfolding slotframeInside
@@ -73,7 +76,7 @@ unfolding bytesInside
 fits-bytes s at size h = sym (if-ge _ _ _ _ h refl)
 
 long-enough : (n : ℕ) → TimeslotLength n → isTimeslotLength n ≡ true
-unfolding isTimeslotLength ifEq
+unfolding isTimeslotLength
 long-enough n (inl e) = rw e refl
 long-enough n (inr (inl e)) = rw e refl
 long-enough n (inr (inr e)) = rw e refl
@@ -125,14 +128,17 @@ module _ (s : List ℕ) (at : ℕ) where
     unfolding slotframeInside
     links-few r h f = if-ge _ _ _ _ (omega arith) (rw e at f)
 
+below : (n most over : ℕ) → over ≡ most + 1 → ltb n over ≡ ifLt most n false true
+below n most over e = each-lt (λ (r : Bool). ltb n over ≡ r) _ _ _ _ (λ more. le-ltb n over (omega arith)) (λ within. lt-ltb n over (omega arith))
+
 module _ (s : List ℕ) (at to : ℕ) where
   pub timeslot-behind : length s < to → false ≡ timeslotInside s at to
   unfolding timeslotInside
   timeslot-behind h = if-lt _ _ _ _ h refl
 
-  pub timeslot-there : (size : ℕ) (r : Bool) → to ≤ length s → size ≡ to - at → r ≡ isTimeslotLength size → r ≡ timeslotInside s at to
-  unfolding timeslotInside
-  timeslot-there size r h e f = if-ge _ _ _ _ h (rw e at f)
+  pub timeslot-there : (size : ℕ) → to ≤ length s → size ≡ to - at → eqb size 25 || (eqb size 27 || eqb size 1) ≡ timeslotInside s at to
+  unfolding timeslotInside isTimeslotLength
+  timeslot-there size h e = if-ge _ _ _ _ h (rw e)
 
   pub joining-nowhere : at ≡ 0 → true ≡ joiningInside s at to
   unfolding joiningInside
@@ -143,9 +149,14 @@ module _ (s : List ℕ) (at to : ℕ) where
     unfolding joiningInside
     joining-behind h = if-ne _ _ _ _ some (if-lt _ _ _ _ h refl)
 
-    pub joining-there : (size byte : ℕ) (r : Bool) → to ≤ length s → size ≡ to - at → byte ≡ getD s at 0 → r ≡ isJoiningLength size (byte / 64 % 2) → r ≡ joiningInside s at to
-    unfolding joiningInside
-    joining-there size byte r h e f g = if-ne _ _ _ _ some (if-ge _ _ _ _ h (rw (e, f) at g))
+    module _ (size byte : ℕ) (h : to ≤ length s) (e : size ≡ to - at) (f : byte ≡ getD s at 0) where
+      pub joining-short : size < 4 + 8 * (byte / 64 % 2) → false ≡ joiningInside s at to
+      unfolding joiningInside isJoiningLength
+      joining-short k = if-ne _ _ _ _ some (if-ge _ _ _ _ h (rw (← e, ← f) (if-lt _ _ _ _ k refl)))
+
+      pub joining-there : 4 + 8 * (byte / 64 % 2) ≤ size → ltb size (4 + 8 * (byte / 64 % 2) + 17) ≡ joiningInside s at to
+      unfolding joiningInside isJoiningLength
+      joining-there k = if-ne _ _ _ _ some (if-ge _ _ _ _ h (rw (← e, ← f) (if-ge _ _ _ _ k (below size _ _ (omega arith)))))
 
 -- all of them
 pub all-inside : (s : List ℕ) (walk : Walk) (synchronization timeslot hopping slotframe joining : Bool) → synchronization ≡ bytesInside s (walk .synchronization) 6 → timeslot ≡ timeslotInside s (walk .timeslot) (walk .timeslotend)
@@ -154,4 +165,4 @@ pub all-inside : (s : List ℕ) (walk : Walk) (synchronization timeslot hopping 
 unfolding liesInside
 all-inside s walk synchronization timeslot hopping slotframe joining e f g h k = rw (e, f, g, h, k)
 
-pub ruleset inside = (choices, starts-behind, ends-behind, ends-inside, slotframe-behind, links-many, links-few, timeslot-behind, timeslot-there, joining-nowhere, joining-behind, joining-there, all-inside)
+pub ruleset inside = (choices, starts-behind, ends-behind, ends-inside, slotframe-behind, links-many, links-few, timeslot-behind, timeslot-there, joining-nowhere, joining-behind, joining-short, joining-there, all-inside)

@@ -1,14 +1,12 @@
 -- Every number of reading is one of 0 to 8, and 1 is given for the length alone. Assumes nothing.
-use Prim.Native.Nat.{ℕ, zero, suc, _+_, _-_, _≤_}
+use Prim.Native.Nat.{ℕ, zero, suc, _-_, _≤_}
 use mathlib.Core.Path.{_≡_, refl, sym, subst}
 use mathlib.Core.Bool.{Bool, true, false, not, _&&_}
 use mathlib.Core.List.{List}
 use lib.Dec.{T, T-not, leb, eqb, leb→le}
-use lib.ListN.{length, getD}
-use Rattle.octets_spec.specs.Choice.{ifOn, ifLt, ifEq}
-use Rattle.octets_spec.specs.Number.{leAt}
+use lib.ListN.{length}
 use Rattle.octets_spec.proofs.ChoiceLaws.{if-ge, either-on, either-lt, either-eq}
-use Rattle.mac_header_spec.specs.Control.{controlOf, offsetsOf, formFault, macHeaderFault}
+use Rattle.mac_header_spec.specs.Control.{formFault, macHeaderFault}
 use Rattle.mac_header_spec.specs.declared.Control.{Control}
 use Rattle.ie_verdict_spec.specs.Verdict.{onceOnly, syncFault, timeslotFault, hoppingFault, slotframeShape, slotframeLimits, slotframeFault, joiningFault, slotframeFaultAt, partFault}
 use Rattle.ie_verdict_spec.specs.declared.Seen.{Seen}
@@ -22,7 +20,6 @@ use Rattle.ie_step_spec.specs.declared.InnerStep.{InnerStep}
 use Rattle.ie_step_spec.specs.declared.InnerStep.the-variants as inner
 use Rattle.ie_walk_spec.specs.Walk.{seenOf, skipOne, taken, stopped, partTaken, headerGo, headerList, outerGo, groupGo, payloadList}
 use Rattle.ie_walk_spec.specs.declared.Walk.{Walk}
-use Rattle.ie_walk_spec.specs.declared.HeaderListEnd.{HeaderListEnd}
 use Rattle.eb_read_spec.specs.declared.Examination.{Examination}
 use Rattle.eb_read_spec.specs.Read.{walkStart, elementsWalk, missing, walkNumber, elementsOffset, examined}
 

@@ -1,7 +1,9 @@
 -- The laws of reading, in the shape in which the code meets them. Assumes nothing.
 use Prim.Native.Nat.{ℕ, _≤_}
 use mathlib.Core.Path.{_≡_, refl}
+use mathlib.Core.Bool.{Bool, true, false, cond, _||_}
 use mathlib.Core.List.{List}
+use lib.Dec.{eqb}
 use lib.ListN.{length}
 use Rattle.octets_spec.specs.Choice.{ifEq}
 use Rattle.octets_spec.specs.Number.{leAt}
@@ -54,7 +56,24 @@ pub walk-small : (s : List ℕ) (at end : ℕ) (w : Walk) → w ≡ elementsWalk
 walk-small s at end w e = rw e (at-most-8 _ (elements-small s at end))
 
 -- ---- the number and the record
+-- four tests in a row with one answer are one test
+row : {A : Type 0} (x y : A) (a b c d : Bool) → cond (a || (b || (c || d))) x y ≡ cond a x (cond b x (cond c x (cond d x y)))
+row x y true b c d = refl
+row x y false true c d = refl
+row x y false false true d = refl
+row x y false false false d = refl
+
 module _ (w : Walk) where
+  missing-is : cond (eqb (w .synchronization) 0 || (eqb (w .timeslot) 0 || (eqb (w .hopping) 0 || eqb (w .slotframe) 0))) 7 0 ≡ missing w
+  unfolding missing ifEq
+  missing-is = row 7 0 (eqb (w .synchronization) 0) (eqb (w .timeslot) 0) (eqb (w .hopping) 0) (eqb (w .slotframe) 0)
+
+  pub some-missing : (eqb (w .synchronization) 0 || (eqb (w .timeslot) 0 || (eqb (w .hopping) 0 || eqb (w .slotframe) 0))) ≡ true → 7 ≡ missing w
+  some-missing t = rw t at missing-is
+
+  pub none-missing : (eqb (w .synchronization) 0 || (eqb (w .timeslot) 0 || (eqb (w .hopping) 0 || eqb (w .slotframe) 0))) ≡ false → 0 ≡ missing w
+  none-missing t = rw t at missing-is
+
   pub faulty : (w .fault ≡ 0 → ⊥) → w .fault ≡ walkNumber w
   unfolding walkNumber
   faulty h = if-ne _ _ _ _ h refl
@@ -95,4 +114,4 @@ module _ (s : List ℕ) (x : Examination) (e : x ≡ examined s) where
   unfolding readFrame
   read-done b good f = rw (← e) (if-eq _ _ _ _ good (rw f))
 
-pub ruleset reading = (choices, heads, blanks, header-faulty, header-only, header-and-payload, header-list-at, walk-small, faulty, faultless, examined-mac-header, examined-walk, unexamined, refused-walk, accepted-walk, read-refused, read-done)
+pub ruleset reading = (choices, heads, blanks, header-faulty, header-only, header-and-payload, header-list-at, walk-small, some-missing, none-missing, faulty, faultless, examined-mac-header, examined-walk, unexamined, refused-walk, accepted-walk, read-refused, read-done)

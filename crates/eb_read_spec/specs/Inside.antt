@@ -2,9 +2,10 @@
 -- order of checks). Assumes nothing.
 use Prim.Native.Nat.{ℕ, _+_, _-_, _*_, _/_, _%_, _<_, _≤_}
 use mathlib.Core.Path.{_≡_}
-use mathlib.Core.Bool.{Bool, true, false, _&&_}
+use mathlib.Core.Bool.{Bool, true, false, _&&_, _||_}
 use mathlib.Core.List.{List}
 use mathlib.Core.Logic.{_⊎_}
+use lib.Dec.{eqb}
 use lib.ListN.{length, getD}
 use Rattle.octets_spec.specs.Choice.{ifLt, ifEq}
 use Rattle.refusal.specs.Refusal.{done}
@@ -18,7 +19,7 @@ bytesInside s at size = ifLt (length s) (at + size) false true
 
 -- a timeslot element has 25 bytes, 27 or 1
 unfoldable pub isTimeslotLength : ℕ → Bool
-isTimeslotLength size = ifEq size 25 true (ifEq size 27 true (ifEq size 1 true false))
+isTimeslotLength size = eqb size 25 || (eqb size 27 || eqb size 1)
 
 -- and ends inside the frame
 unfoldable pub timeslotInside : List ℕ → ℕ → ℕ → Bool

@@ -1,6 +1,7 @@
-// The record of a form without enums, as C has it, and which forms are a record's (eb_record_spec/specs/Form.antt).
+// The record of a form without enums, as C has it, which forms are a record's (eb_record_spec/specs/Form.antt), and the blank record.
 ghost use mathlib.Core.Path.{_≡_};
-ghost use Rattle.eb_record_spec.specs.Form.{sequenceFrom, sourceFrom, beaconOf, isBeacon};
+ghost use Rattle.eb_record_spec.specs.Record.{blankBeacon};
+ghost use Rattle.eb_record_spec.specs.Form.{formOf, sequenceFrom, sourceFrom, beaconOf, isBeacon};
 use eb_record_spec::Address;
 use eb_record_spec::Beacon;
 use eb_record_spec::BeaconForm;
@@ -51,4 +52,38 @@ pub fn beacon_of(form: BeaconForm) -> Beacon
         slotframe,
         joining,
     }
+}
+
+// The form of the blank record.
+pub fn blank_form() -> BeaconForm
+    ensures { λ r. ⌜ r ≡ formOf blankBeacon ⌝ }
+{
+    BeaconForm {
+        sequenced: false,
+        sequence: 0,
+        pan: 0,
+        extended: false,
+        source: 0,
+        synchronization: eb_record_spec::Synchronization { asn: 0, metric: 0 },
+        timeslot: eb_record_spec::TimeslotTemplate {
+            id: 0,
+            timed: false,
+            timings: [0u32; 12],
+        },
+        hopping: 0,
+        slotframe: eb_record_spec::Slotframe {
+            handle: 0,
+            size: 0,
+            count: 0,
+            links: [eb_record_spec::blank_link(); 16],
+        },
+        joining: eb_record_spec::blank_joining(),
+    }
+}
+
+// The blank record, which a refused reading gives.
+pub fn blank() -> Beacon
+    ensures { λ r. ⌜ r ≡ blankBeacon ⌝ }
+{
+    beacon_of(blank_form())
 }

@@ -1,6 +1,6 @@
 -- The form of a record and the record of a form are inverses of each other. Assumes nothing.
-use Prim.Native.Nat.{ℕ, _<_, _%_, _^_}
-use mathlib.Core.Path.{_≡_, refl, sym, _∙_, ap}
+use Prim.Native.Nat.{ℕ, _^_}
+use mathlib.Core.Path.{_≡_, refl, sym, ap}
 use mathlib.Core.Bool.{Bool, true, false, _&&_, _||_}
 use native.Mathlib.Nat.{mod-eq-of-lt}
 use borrow.Author.Tests.{ltb-true, eqb-true}
@@ -11,7 +11,6 @@ use Rattle.eb_record_spec.specs.declared.SequenceNumber.the-variants.{Ab
 use Rattle.eb_record_spec.specs.declared.Address.{Address}
 use Rattle.eb_record_spec.specs.declared.Address.the-variants.{Short, Extended}
 use Rattle.eb_record_spec.specs.declared.Beacon.{Beacon}
-use Rattle.eb_record_spec.specs.declared.BeaconForm.{BeaconForm}
 use Rattle.eb_record_spec.specs.Form.{isSequenced, sequenceNumber, isExtended, addressNumber, formOf, sequenceFrom, sourceFrom, beaconOf, isBeacon, sourceFits, FormsGiveTheRecord, RecordsGiveTheForm, ExtendedHasItsForm, FormsOfNoRecord}
 
 -- ---- two tests at once
@@ -86,10 +85,6 @@ unfolding isBeacon formOf beaconOf
 records-give-the-form form is =
     let tests = both _ _ is in
     rw (sequence-mark (form .sequenced) (form .sequence), sequence-number (form .sequenced) (form .sequence) (tests .0), source-kind (form .extended) (form .source), source-number (form .extended) (form .source) (tests .1))
-
--- a form that is a record's and the form of a record is that record's
-pub form-is-of : (form : BeaconForm) (beacon : Beacon) → isBeacon form ≡ true → form ≡ formOf beacon → beaconOf form ≡ beacon
-form-is-of form beacon is e = rw e (form-back beacon (rw e at is))
 
 -- a record with an extended source, and forms that are no record's: the checker computes them
 pub extended-has-its-form : ExtendedHasItsForm

@@ -2,7 +2,7 @@
 // Fields are wide enough to hold values outside their limits, so that a record that breaks a limit can be given and refused.
 ghost use mathlib.Core.Path.{_≡_};
 ghost use Rattle.eb_record_spec.specs.Form.{FormsGiveTheRecord, RecordsGiveTheForm, ExtendedHasItsForm, FormsOfNoRecord};
-ghost use Rattle.eb_record_spec.specs.Record.{blankBeacon, blankJoining, blankLink};
+ghost use Rattle.eb_record_spec.specs.Record.{blankJoining, blankLink};
 
 // A source address: short (2 bytes) or extended (8 bytes).
 pub enum Address {
@@ -118,31 +118,6 @@ pub fn blank_joining() -> JoiningInformation
         address: 0,
         length: 0,
         network: [0u8; 16],
-    }
-}
-
-// The blank record, which a refused reading gives.
-pub fn blank() -> Beacon
-    ensures { λ r. ⌜ r ≡ blankBeacon ⌝ }
-{
-    Beacon {
-        sequence: SequenceNumber::Absent,
-        pan: 0,
-        source: Address::Short(0),
-        synchronization: Synchronization { asn: 0, metric: 0 },
-        timeslot: TimeslotTemplate {
-            id: 0,
-            timed: false,
-            timings: [0u32; 12],
-        },
-        hopping: 0,
-        slotframe: Slotframe {
-            handle: 0,
-            size: 0,
-            count: 0,
-            links: [blank_link(); 16],
-        },
-        joining: blank_joining(),
     }
 }
 

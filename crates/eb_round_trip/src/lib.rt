@@ -18,7 +18,7 @@ fn refused(number: u8) -> ReadAnswer
 {
     ReadAnswer {
         number,
-        beacon: eb_record_spec::blank(),
+        beacon: eb_record::blank(),
     }
 }
 

@@ -16,13 +16,22 @@ span-requires c κs = search needs
 byte-requires : tie.Need-byte-requires
 byte-requires c κs = search needs
 
-is-joining-length-requires : tie.Need-is-joining-length-requires
-is-joining-length-requires c κs = search needs
+mul-least : tie.Need-mul-least
+mul-least c = search needs
+
+add-least : tie.Need-add-least
+add-least c = search needs
 
 returns-3 : tie.Need-returns-3
 returns-3 c = search (needs, inside)
 
+add-result : tie.Need-add-result
+add-result c = search needs
+
+returns-4 : tie.Need-returns-4
+returns-4 c = search (needs, inside)
+
 pub joining-inside-spec : {M : Type 1} → statement M
 joining-inside-spec =
     tie.close
-    (tie.spec returns returns-2 span-requires byte-requires is-joining-length-requires returns-3)
+    (tie.spec returns returns-2 span-requires byte-requires mul-least add-least returns-3 add-result returns-4)

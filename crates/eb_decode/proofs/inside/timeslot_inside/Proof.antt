@@ -10,12 +10,8 @@ returns c = search (needs, inside)
 span-requires : tie.Need-span-requires
 span-requires c κs = search needs
 
-is-timeslot-length-requires : tie.Need-is-timeslot-length-requires
-is-timeslot-length-requires c κs = search needs
-
 returns-2 : tie.Need-returns-2
 returns-2 c = search (needs, inside)
 
 pub timeslot-inside-spec : {M : Type 1} → statement M
-timeslot-inside-spec =
-    tie.close (tie.spec returns span-requires is-timeslot-length-requires returns-2)
+timeslot-inside-spec = tie.close (tie.spec returns span-requires returns-2)

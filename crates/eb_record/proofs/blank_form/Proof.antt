@@ -1,9 +1,9 @@
--- `eb_decode::blank_form` meets its contract. Assumes nothing.
+-- `eb_record::blank_form` meets its contract. Assumes nothing.
 use mathlib.Core.Path.{refl}
 use Rattle.eb_record_spec.specs.Form.{isSequenced, sequenceNumber, isExtended, addressNumber, formOf}
 use borrow.Author.Needs.{needs}
-use Rattle.eb_decode.proofs.blank_form.Statement.{statement}
-use Rattle.eb_decode.proofs.blank_form.Tie as tie
+use Rattle.eb_record.proofs.blank_form.Statement.{statement}
+use Rattle.eb_record.proofs.blank_form.Tie as tie
 
 blank-link-requires : tie.Need-blank-link-requires
 blank-link-requires c κs = search needs
