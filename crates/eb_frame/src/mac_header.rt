@@ -7,16 +7,10 @@ ghost use Rattle.eb_write_spec.specs.Frame.{suppressedBit, sequenceBytes, sourc
 use eb_record_spec::Address;
 use eb_record_spec::SequenceNumber;
 
-// Frame control: PAN ID compression is set.
-const PAN_ID_COMPRESSION: u64 = 0x40;
+// Frame control of every frame: PAN ID compression, elements present, a short destination, version 2.
+const ALWAYS: u64 = 0x2A40;
 // Frame control: the bit of a suppressed sequence number.
 const SUPPRESSED: u64 = 0x100;
-// Frame control: elements are present.
-const ELEMENTS_PRESENT: u64 = 0x200;
-// Frame control: the destination is short.
-const DESTINATION_SHORT: u64 = 0x800;
-// Frame control: the version is 2.
-const VERSION_2: u64 = 0x2000;
 // Frame control: the lowest bit of the source's addressing mode.
 const SOURCE_MODE: u64 = 0x4000;
 // The addressing mode of a short source.
@@ -47,12 +41,7 @@ fn source_mode(source: Address) -> u64
 fn control_word(sequence: SequenceNumber, source: Address) -> u64
     ensures { λ r. ⌜ (r ≡ controlWord sequence source) × (r < 65536) ⌝ }
 {
-    PAN_ID_COMPRESSION
-        + suppressed_bit(sequence) * SUPPRESSED
-        + ELEMENTS_PRESENT
-        + DESTINATION_SHORT
-        + VERSION_2
-        + source_mode(source) * SOURCE_MODE
+    ALWAYS + suppressed_bit(sequence) * SUPPRESSED + source_mode(source) * SOURCE_MODE
 }
 
 // What the byte of a sequence number holds, if there is one.

@@ -1,5 +1,5 @@
 -- `eb_frame::joining::joining_word` meets its contract. Assumes nothing.
-use Rattle.eb_frame.proofs.JoiningLaws.{joinings}
+use Rattle.eb_frame.proofs.JoiningLaws.{word-is}
 use borrow.Author.Needs.{needs}
 use Rattle.eb_frame.proofs.joining.joining_word.Statement.{statement}
 use Rattle.eb_frame.proofs.joining.joining_word.Tie as tie
@@ -44,7 +44,7 @@ add-result-4 : tie.Need-add-result-4
 add-result-4 c = search needs
 
 returns : tie.Need-returns
-returns c = search (needs, joinings)
+returns c = word-is _ _ _ (c .before .before .before .before .flag-of .ensures .0) (c .before .before .before .flag-of2 .ensures .0)
 
 pub joining-word-spec : {M : Type 1} → statement M
 joining-word-spec =

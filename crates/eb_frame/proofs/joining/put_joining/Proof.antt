@@ -1,5 +1,5 @@
 -- `eb_frame::joining::put_joining` meets its contract. Assumes nothing.
-use Rattle.eb_frame.proofs.JoiningLaws.{joinings}
+use Rattle.eb_frame.proofs.JoiningLaws.{joining-put, joinings}
 use borrow.Author.Needs.{needs}
 use Rattle.eb_frame.proofs.joining.put_joining.Statement.{statement}
 use Rattle.eb_frame.proofs.joining.put_joining.Tie as tie
@@ -20,7 +20,7 @@ same-length : tie.Need-same-length
 same-length c = search needs
 
 returns-2 : tie.Need-returns-2
-returns-2 c = search (needs, joinings)
+returns-2 c = joining-put _ _ _ _ _ (c .before .before .before .before .before .before .before .before .if2 .taken) (c .before .before .before .before .before .before .put-joining-start .ensures) (c .before .before .put-joining-rest .ensures)
 
 returns-3 : tie.Need-returns-3
 returns-3 c = search (needs, joinings)

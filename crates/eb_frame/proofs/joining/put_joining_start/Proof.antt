@@ -1,5 +1,5 @@
 -- `eb_frame::joining::put_joining_start` meets its contract. Assumes nothing.
-use Rattle.eb_frame.proofs.JoiningLaws.{joinings}
+use Rattle.eb_frame.proofs.JoiningLaws.{joining-starts}
 use borrow.Author.Needs.{needs}
 use Rattle.eb_frame.proofs.joining.put_joining_start.Statement.{statement}
 use Rattle.eb_frame.proofs.joining.put_joining_start.Tie as tie
@@ -32,7 +32,7 @@ same-length : tie.Need-same-length
 same-length c = search needs
 
 returns : tie.Need-returns
-returns c = search (needs, joinings)
+returns c = joining-starts _ _ _ _ _ _ _ (c .before .before .before .before .before .before .before .before .joining-size .ensures .0) (c .before .before .before .before .before .before .before .before .joining-size .ensures .1) (c .before .before .before .joining-word .ensures) (c .before .before .before .before .before .before .before .put-le .ensures .0) (c .before .before .put-be .ensures .0)
 
 pub put-joining-start-spec : {M : Type 1} → statement M
 put-joining-start-spec =

@@ -1,5 +1,5 @@
 -- `eb_frame::mac_header::put_mac_header` meets its contract. Assumes nothing.
-use Rattle.eb_frame.proofs.MacHeaderLaws.{macHeaders}
+use Rattle.eb_frame.proofs.MacHeaderLaws.{mac-header-put}
 use borrow.Author.Needs.{needs}
 use Rattle.eb_frame.proofs.mac_header.put_mac_header.Statement.{statement}
 use Rattle.eb_frame.proofs.mac_header.put_mac_header.Tie as tie
@@ -59,7 +59,7 @@ same-length : tie.Need-same-length
 same-length c = search needs
 
 returns : tie.Need-returns
-returns c = search (needs, macHeaders)
+returns c = mac-header-put _ _ _ _ _ _ _ _ _ _ _ _ (search needs) (c .before .before .before .before .before .before .before .before .before .before .before .before .before .before .before .control-word .ensures .0) (c .before .before .before .before .before .before .before .before .before .before .before .before .before .before .before .control-word .ensures .1) (c .before .before .before .before .before .before .before .before .before .before .before .before .before .before .before .before .sequence-size .ensures .0) (c .before .before .before .before .before .before .before .before .before .before .before .before .before .before .sequence-number .ensures .0) (c .before .before .before .before .source-size .ensures .0) (c .before .before .before .source-number .ensures) (c .before .before .before .before .before .before .before .before .before .before .before .before .put-le .ensures .0) (c .before .before .before .before .before .before .before .before .put-le2 .ensures .0) (c .before .before .put-le3 .ensures .0)
 
 pub put-mac-header-spec : {M : Type 1} → statement M
 put-mac-header-spec =

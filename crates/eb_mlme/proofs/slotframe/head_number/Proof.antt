@@ -1,5 +1,5 @@
 -- `eb_mlme::slotframe::head_number` meets its contract. Assumes nothing.
-use Rattle.eb_mlme.proofs.SlotframeLaws.{slotframes}
+use Rattle.eb_mlme.proofs.SlotframeLaws.{head-number}
 use borrow.Author.Needs.{needs}
 use Rattle.eb_mlme.proofs.slotframe.head_number.Statement.{statement}
 use Rattle.eb_mlme.proofs.slotframe.head_number.Tie as tie
@@ -32,7 +32,7 @@ add-result-5 : tie.Need-add-result-5
 add-result-5 c = search needs
 
 returns : tie.Need-returns
-returns c = search (needs, slotframes)
+returns c = head-number _ _ _ (search needs) (search needs) (search needs)
 
 pub head-number-spec : {M : Type 1} → statement M
 head-number-spec =

@@ -1,5 +1,5 @@
 -- `eb_mlme::slotframe::link_number` meets its contract. Assumes nothing.
-use Rattle.eb_mlme.proofs.SlotframeLaws.{slotframes}
+use Rattle.eb_mlme.proofs.SlotframeLaws.{link-number}
 use borrow.Author.Needs.{needs}
 use Rattle.eb_mlme.proofs.slotframe.link_number.Statement.{statement}
 use Rattle.eb_mlme.proofs.slotframe.link_number.Tie as tie
@@ -26,7 +26,7 @@ add-result-2 : tie.Need-add-result-2
 add-result-2 c = search needs
 
 returns : tie.Need-returns
-returns c = search (needs, slotframes)
+returns c = link-number _ (search needs) (search needs)
 
 pub link-number-spec : {M : Type 1} → statement M
 link-number-spec =

@@ -1,5 +1,5 @@
 -- `eb_mlme::template::put_last_timings` meets its contract. Assumes nothing.
-use Rattle.eb_mlme.proofs.TemplateLaws.{templates}
+use Rattle.eb_mlme.proofs.TemplateLaws.{last-put}
 use borrow.Author.Needs.{needs}
 use Rattle.eb_mlme.proofs.template.put_last_timings.Statement.{statement}
 use Rattle.eb_mlme.proofs.template.put_last_timings.Tie as tie
@@ -35,7 +35,7 @@ same-length : tie.Need-same-length
 same-length c = search needs
 
 returns : tie.Need-returns
-returns c = search (needs, templates)
+returns c = (last-put _ _ _ _ (c .before .before .before .before .before .before .before .before .before .before .args .t3) (search needs) _ (c .before .before .before .before .before .before .before .before .last-width .ensures .0) (c .before .before .before .before .before .before .put-le .ensures .0) (c .before .before .put-le2 .ensures .0), search needs)
 
 pub put-last-timings-spec : {M : Type 1} → statement M
 put-last-timings-spec =

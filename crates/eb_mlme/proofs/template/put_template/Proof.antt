@@ -1,5 +1,5 @@
 -- `eb_mlme::template::put_template` meets its contract. Assumes nothing.
-use Rattle.eb_mlme.proofs.TemplateLaws.{template-timed, templates}
+use Rattle.eb_mlme.proofs.TemplateLaws.{template-timed, template-bare, templates}
 use borrow.Author.Needs.{needs}
 use Rattle.eb_mlme.proofs.template.put_template.Statement.{statement}
 use Rattle.eb_mlme.proofs.template.put_template.Tie as tie
@@ -53,7 +53,7 @@ same-length-2 : tie.Need-same-length-2
 same-length-2 c = search needs
 
 returns-3 : tie.Need-returns-3
-returns-3 c = search (needs, templates)
+returns-3 c = template-bare _ _ _ _ _ (c .before .before .before .before .before .before .template-size .ensures .0) (c .before .before .before .before .before .before .template-size .ensures .1) (c .before .before .before .put-le .ensures .0) (c .if2 .left)
 
 pub put-template-spec : {M : Type 1} → statement M
 put-template-spec =

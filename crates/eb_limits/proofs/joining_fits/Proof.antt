@@ -1,8 +1,8 @@
--- `eb_limits::joining_limits::joining_fits` meets its contract. Assumes nothing.
+-- `eb_limits::joining_fits` meets its contract. Assumes nothing.
 use Rattle.eb_limits.proofs.LimitLaws.{limits}
 use borrow.Author.Needs.{needs}
-use Rattle.eb_limits.proofs.joining_limits.joining_fits.Statement.{statement}
-use Rattle.eb_limits.proofs.joining_limits.joining_fits.Tie as tie
+use Rattle.eb_limits.proofs.joining_fits.Statement.{statement}
+use Rattle.eb_limits.proofs.joining_fits.Tie as tie
 
 present-fits-requires : tie.Need-present-fits-requires
 present-fits-requires c κs = search needs

@@ -1,8 +1,8 @@
--- `eb_limits::slotframe_limits::link_fits` meets its contract. Assumes nothing.
+-- `eb_limits::link_fits` meets its contract. Assumes nothing.
 use Rattle.eb_limits.proofs.LimitLaws.{link-is}
 use borrow.Author.Needs.{needs}
-use Rattle.eb_limits.proofs.slotframe_limits.link_fits.Statement.{statement}
-use Rattle.eb_limits.proofs.slotframe_limits.link_fits.Tie as tie
+use Rattle.eb_limits.proofs.link_fits.Statement.{statement}
+use Rattle.eb_limits.proofs.link_fits.Tie as tie
 
 returns : tie.Need-returns
 returns c = link-is _ _ (search needs)

@@ -1,4 +1,4 @@
--- `eb_limits::slotframe_limits::links_fit` meets its contract. Assumes nothing.
+-- `eb_limits::links_fit` meets its contract. Assumes nothing.
 use lib.ListN.{length}
 use Prim.Native.Nat.{_≤_}
 use mathlib.Core.Path.{_≡_}
@@ -6,8 +6,8 @@ use Rattle.eb_write_spec.specs.Range.{allFrom}
 use Rattle.eb_write_spec.specs.Limits.{linkFits}
 use Rattle.eb_write_spec.proofs.RangeLaws.{ranges}
 use borrow.Author.Needs.{needs}
-use Rattle.eb_limits.proofs.slotframe_limits.links_fit.Statement.{statement}
-use Rattle.eb_limits.proofs.slotframe_limits.links_fit.Tie as tie
+use Rattle.eb_limits.proofs.links_fit.Statement.{statement}
+use Rattle.eb_limits.proofs.links_fit.Tie as tie
 
 abbrev Inv-loop : tie.InvT-loop
 Inv-loop to size links ok₀ i₀ ok i = (i ≤ to) × (length links ≡ 16) × (ok ≡ allFrom (linkFits size) links i to)

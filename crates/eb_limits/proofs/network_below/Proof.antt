@@ -1,11 +1,11 @@
--- `eb_limits::joining_limits::network_below` meets its contract. Assumes nothing.
+-- `eb_limits::network_below` meets its contract. Assumes nothing.
 use Prim.Native.Nat.{_≤_}
 use mathlib.Core.Path.{_≡_}
 use Rattle.eb_write_spec.specs.Range.{allFrom, below}
 use Rattle.eb_write_spec.proofs.RangeLaws.{ranges}
 use borrow.Author.Needs.{needs}
-use Rattle.eb_limits.proofs.joining_limits.network_below.Statement.{statement}
-use Rattle.eb_limits.proofs.joining_limits.network_below.Tie as tie
+use Rattle.eb_limits.proofs.network_below.Statement.{statement}
+use Rattle.eb_limits.proofs.network_below.Tie as tie
 
 abbrev Inv-loop : tie.InvT-loop
 Inv-loop from to bound network ok₀ i₀ ok i = (from ≤ i) × (i ≤ to) × (ok ≡ allFrom (below bound) network i to)

@@ -1,8 +1,8 @@
--- `eb_limits::joining_limits::present_fits` meets its contract. Assumes nothing.
+-- `eb_limits::present_fits` meets its contract. Assumes nothing.
 use Rattle.eb_limits.proofs.LimitLaws.{present-is}
 use borrow.Author.Needs.{needs}
-use Rattle.eb_limits.proofs.joining_limits.present_fits.Statement.{statement}
-use Rattle.eb_limits.proofs.joining_limits.present_fits.Tie as tie
+use Rattle.eb_limits.proofs.present_fits.Statement.{statement}
+use Rattle.eb_limits.proofs.present_fits.Tie as tie
 
 at-most-16-requires : tie.Need-at-most-16-requires
 at-most-16-requires c κs = search needs

@@ -1,8 +1,8 @@
--- `eb_limits::joining_limits::address_fits` meets its contract. Assumes nothing.
+-- `eb_limits::address_fits` meets its contract. Assumes nothing.
 use Rattle.eb_limits.proofs.LimitLaws.{address-there, address-unused}
 use borrow.Author.Needs.{needs}
-use Rattle.eb_limits.proofs.joining_limits.address_fits.Statement.{statement}
-use Rattle.eb_limits.proofs.joining_limits.address_fits.Tie as tie
+use Rattle.eb_limits.proofs.address_fits.Statement.{statement}
+use Rattle.eb_limits.proofs.address_fits.Tie as tie
 
 returns : tie.Need-returns
 returns c = address-there _ (search needs) (search needs)

@@ -1,4 +1,4 @@
--- `eb_limits::slotframe_limits::links_unused` meets its contract. Assumes nothing.
+-- `eb_limits::links_unused` meets its contract. Assumes nothing.
 use lib.ListN.{length}
 use Prim.Native.Nat.{_≤_}
 use mathlib.Core.Path.{_≡_}
@@ -6,8 +6,8 @@ use Rattle.eb_write_spec.specs.Range.{allFrom}
 use Rattle.eb_write_spec.specs.Limits.{linkUnused}
 use Rattle.eb_write_spec.proofs.RangeLaws.{ranges}
 use borrow.Author.Needs.{needs}
-use Rattle.eb_limits.proofs.slotframe_limits.links_unused.Statement.{statement}
-use Rattle.eb_limits.proofs.slotframe_limits.links_unused.Tie as tie
+use Rattle.eb_limits.proofs.links_unused.Statement.{statement}
+use Rattle.eb_limits.proofs.links_unused.Tie as tie
 
 abbrev Inv-loop : tie.InvT-loop
 Inv-loop from links ok₀ i₀ ok i = (from ≤ i) × (i ≤ 16) × (length links ≡ 16) × (ok ≡ allFrom linkUnused links i 16)

@@ -1,8 +1,8 @@
--- `eb_limits::joining_limits::absent_fits` meets its contract. Assumes nothing.
+-- `eb_limits::absent_fits` meets its contract. Assumes nothing.
 use Rattle.eb_limits.proofs.LimitLaws.{absent-is}
 use borrow.Author.Needs.{needs}
-use Rattle.eb_limits.proofs.joining_limits.absent_fits.Statement.{statement}
-use Rattle.eb_limits.proofs.joining_limits.absent_fits.Tie as tie
+use Rattle.eb_limits.proofs.absent_fits.Statement.{statement}
+use Rattle.eb_limits.proofs.absent_fits.Tie as tie
 
 network-below-requires : tie.Need-network-below-requires
 network-below-requires c κs = search needs
