@@ -30,9 +30,9 @@ pub mode-extended : (a : Address) (n : ℕ) → a ≡ Extended n → 3 ≡ sourc
 unfolding sourceMode
 mode-extended a n e = rw e
 
-pub control-is : (q : SequenceNumber) (a : Address) (x y : ℕ) → x ≡ suppressedBit q → y ≡ sourceMode a → 64 + x * 256 + 512 + 2048 + 8192 + y * 16384 ≡ controlWord q a
+pub control-is : (q : SequenceNumber) (a : Address) (x y : ℕ) → x ≡ suppressedBit q → y ≡ sourceMode a → 10816 + x * 256 + y * 16384 ≡ controlWord q a
 unfolding controlWord
-control-is q a x y e f = rw (e, f)
+control-is q a x y e f = rw (e, f) (omega arith)
 
 pub sequence-none : (q : SequenceNumber) → q ≡ Absent → leBytes (length (sequenceBytes q)) 0 ≡ sequenceBytes q
 unfolding sequenceBytes leBytes

@@ -2,15 +2,16 @@
 // that fits by its type is not tested, but for what a variant holds.
 ghost use mathlib.Core.Path.{_≡_};
 ghost use Prim.Native.Nat.{_≤_};
-ghost use Rattle.eb_write_spec.specs.Limits.{sequenceFits, synchronizationFits, templateFits, fits};
+ghost use lib.ListN.{length};
+ghost use Rattle.eb_write_spec.specs.Limits.{sequenceFits, synchronizationFits, templateFits, linkFits, linkUnused, slotframeFits, addressFits, presentFits, absentFits, joiningFits, fits};
 ghost use Rattle.eb_record_spec.specs.Form.{sourceFits};
 ghost use Rattle.eb_write_spec.specs.Range.{allFrom, below};
 use eb_record_spec::Address;
+use eb_record_spec::JoiningInformation;
+use eb_record_spec::Link;
 use eb_record_spec::SequenceNumber;
 
-pub mod joining_limits;
 pub mod sizes;
-pub mod slotframe_limits;
 
 // The first number that one byte does not hold.
 const OVER_1_BYTE: u16 = 0x100;
@@ -22,6 +23,10 @@ const OVER_3_BYTES: u32 = 0x100_0000;
 const OVER_5_BYTES: u64 = 0x100_0000_0000;
 // The last number that eight bytes hold.
 const LAST_8_BYTES: u64 = 0xFFFF_FFFF_FFFF_FFFF;
+// The first number that 7 bits do not hold.
+const OVER_7_BITS: u8 = 0x80;
+// The first number that 12 bits do not hold.
+const OVER_12_BITS: u16 = 0x1000;
 
 fn sequence_fits(sequence: SequenceNumber) -> bool
     ensures { λ r. ⌜ r ≡ sequenceFits sequence ⌝ }
@@ -72,6 +77,119 @@ fn template_fits(template: eb_record_spec::TimeslotTemplate) -> bool
     (template.id == 0) & timings_below(timings, 0, 12, 1)
 }
 
+// The channel offset fits by its type.
+fn link_fits(link: Link, size: u16) -> bool
+    ensures { λ r. ⌜ r ≡ linkFits size link ⌝ }
+{
+    (link.timeslot < size) & (link.options < OVER_1_BYTE)
+}
+
+fn link_unused(link: Link) -> bool
+    ensures { λ r. ⌜ r ≡ linkUnused link ⌝ }
+{
+    (link.timeslot == 0) & ((link.channel_offset == 0) & (link.options == 0))
+}
+
+// Whether the links before an index fit a slotframe of this size.
+fn links_fit(links: [Link; 16], to: usize, size: u16) -> bool
+    requires { ⌜ to ≤ 16 ⌝ }
+    ensures { λ r. ⌜ r ≡ allFrom (linkFits size) links 0 to ⌝ }
+{
+    let mut ok = true;
+    let mut i = to;
+    while 0 < i {
+        i -= 1;
+        ok = link_fits(links[i], size) & ok;
+    }
+    ok
+}
+
+// Whether the links from an index on are unused.
+fn links_unused(links: [Link; 16], from: usize) -> bool
+    requires { ⌜ from ≤ 16 ⌝ }
+    ensures { λ r. ⌜ r ≡ allFrom linkUnused links from 16 ⌝ }
+{
+    let mut ok = true;
+    let mut i = 16;
+    while from < i {
+        i -= 1;
+        ok = link_unused(links[i]) & ok;
+    }
+    ok
+}
+
+// Whether a slotframe is within the limits of writing.
+fn slotframe_fits(slotframe: eb_record_spec::Slotframe) -> bool
+    ensures { λ r. ⌜ r ≡ slotframeFits slotframe ⌝ }
+{
+    let links = slotframe.links;
+    let used = crate::sizes::at_most_16(slotframe.count);
+    (0 < slotframe.size)
+        & ((0 < slotframe.count)
+            & ((slotframe.count < 17)
+                & (links_fit(links, used, slotframe.size) & links_unused(links, used))))
+}
+
+// The address fits by its type; without P it is unused.
+fn address_fits(joining: JoiningInformation) -> bool
+    ensures { λ r. ⌜ r ≡ addressFits joining ⌝ }
+{
+    if joining.proxied {
+        return true;
+    }
+    joining.address == 0
+}
+
+// Whether the bytes of a network ID from an index to another are below a bound.
+fn network_below(network: [u8; 16], from: usize, to: usize, bound: u16) -> bool
+    requires { ⌜ (from ≤ to) × (to ≤ 16) ⌝ }
+    ensures { λ r. ⌜ (r ≡ allFrom (below bound) network from to) × (length network ≡ 16) ⌝ }
+{
+    let mut ok = true;
+    let mut i = to;
+    while from < i {
+        i -= 1;
+        ok = ((network[i] as u16) < bound) & ok;
+    }
+    ok
+}
+
+fn present_fits(joining: JoiningInformation) -> bool
+    ensures { λ r. ⌜ r ≡ presentFits joining ⌝ }
+{
+    let network = joining.network;
+    let used = crate::sizes::at_most_16(joining.length as u16);
+    (joining.proxy < OVER_7_BITS)
+        & ((joining.rank < OVER_12_BITS)
+            & (address_fits(joining)
+                & ((joining.length < 17)
+                    & (network_below(network, 0, used, OVER_1_BYTE)
+                        & network_below(network, used, 16, 1)))))
+}
+
+fn absent_fits(joining: JoiningInformation) -> bool
+    ensures { λ r. ⌜ r ≡ absentFits joining ⌝ }
+{
+    let network = joining.network;
+    !joining.router
+        & (!joining.proxied
+            & ((joining.proxy == 0)
+                & ((joining.rank == 0)
+                    & ((joining.pan == 0)
+                        & ((joining.address == 0)
+                            & ((joining.length == 0) & network_below(network, 0, 16, 1)))))))
+}
+
+// Whether joining information is within the limits of writing.
+fn joining_fits(joining: JoiningInformation) -> bool
+    ensures { λ r. ⌜ r ≡ joiningFits joining ⌝ }
+{
+    if joining.present {
+        return present_fits(joining);
+    }
+    absent_fits(joining)
+}
+
 // Whether a record is within the limits of writing.
 pub fn within_limits(beacon: eb_record_spec::Beacon) -> bool
     ensures { λ r. ⌜ r ≡ fits beacon ⌝ }
@@ -82,6 +200,5 @@ pub fn within_limits(beacon: eb_record_spec::Beacon) -> bool
         & (source_fits(source)
             & (synchronization_fits(beacon.synchronization)
                 & (template_fits(beacon.timeslot)
-                    & (crate::slotframe_limits::slotframe_fits(beacon.slotframe)
-                        & crate::joining_limits::joining_fits(beacon.joining)))))
+                    & (slotframe_fits(beacon.slotframe) & joining_fits(beacon.joining)))))
 }

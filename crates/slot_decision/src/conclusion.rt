@@ -65,9 +65,7 @@ pub fn conclude(seen: slot_spec::Scan, count: usize, id: u32, asn: u64, waits: b
     ensures { λ r. ⌜ r ≡ concluded seen count id asn waits ⌝ }
 {
     if within(seen.size, count, seen.below, id, asn) {
-        let sends = seen.transmit;
-        let hears = seen.receive;
-        return act(asn, waits, result(sends), result(hears));
+        return act(asn, waits, result(seen.transmit), result(seen.receive));
     }
     Decision::Refused
 }

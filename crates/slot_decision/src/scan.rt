@@ -73,8 +73,6 @@ pub fn step(seen: Scan, link: Link, index: usize) -> Scan
     ensures { λ r. ⌜ r ≡ stepped seen link index ⌝ }
 {
     let active = is_active(seen.slot, link);
-    let transmit = seen.transmit;
-    let receive = seen.receive;
     Scan {
         size: seen.size,
         slot: seen.slot,
@@ -83,13 +81,13 @@ pub fn step(seen: Scan, link: Link, index: usize) -> Scan
             active & may_transmit(link),
             index,
             link.channel_offset,
-            transmit,
+            seen.transmit,
         ),
         receive: searching(
             active & may_receive(link),
             index,
             link.channel_offset,
-            receive,
+            seen.receive,
         ),
     }
 }

@@ -1,5 +1,6 @@
 -- `eb_frame::before_joining` meets its contract. Assumes nothing.
-use Rattle.eb_frame.proofs.FramingLaws.{framings}
+use Rattle.eb_frame.proofs.FramingLaws.{before-is}
+use Rattle.eb_write_spec.proofs.RangeLaws.{length-mapped}
 use borrow.Author.Needs.{needs}
 use Rattle.eb_frame.proofs.before_joining.Statement.{statement}
 use Rattle.eb_frame.proofs.before_joining.Tie as tie
@@ -17,7 +18,7 @@ add-result : tie.Need-add-result
 add-result c = search needs
 
 returns : tie.Need-returns
-returns c = search (needs, framings)
+returns c = (before-is (c .before .before .args .beacon) _ _ (search needs) (search (needs, length-mapped)) (c .before .at-most-16 .ensures .0) (c .group-size .ensures .0), search needs)
 
 pub before-joining-spec : {M : Type 1} → statement M
 before-joining-spec =

@@ -1,5 +1,5 @@
 -- `eb_frame::put_frame` meets its contract. Assumes nothing.
-use Rattle.eb_frame.proofs.FramingLaws.{framings}
+use Rattle.eb_frame.proofs.FramingLaws.{frame-put}
 use borrow.Author.Needs.{needs}
 use Rattle.eb_frame.proofs.put_frame.Statement.{statement}
 use Rattle.eb_frame.proofs.put_frame.Tie as tie
@@ -26,7 +26,7 @@ same-length : tie.Need-same-length
 same-length c = search needs
 
 returns : tie.Need-returns
-returns c = search (needs, framings)
+returns c = frame-put _ _ _ _ _ _ (c .before .before .before .before .before .before .before .before .before .sequence-size .ensures .0) (c .before .before .before .before .before .before .before .before .source-size .ensures .0) (c .before .before .before .before .before .before .put-mac-header .ensures) (c .before .before .put-elements .ensures)
 
 pub put-frame-spec : {M : Type 1} → statement M
 put-frame-spec =

@@ -1,5 +1,5 @@
 -- `eb_mlme::put_group` meets its contract. Assumes nothing.
-use Rattle.eb_mlme.proofs.GroupLaws.{grouping}
+use Rattle.eb_mlme.proofs.GroupLaws.{group-put, grouping}
 use borrow.Author.Needs.{needs}
 use Rattle.eb_mlme.proofs.put_group.Statement.{statement}
 use Rattle.eb_mlme.proofs.put_group.Tie as tie
@@ -26,7 +26,7 @@ same-length : tie.Need-same-length
 same-length c = search needs
 
 returns-2 : tie.Need-returns-2
-returns-2 c = search (needs, grouping)
+returns-2 c = group-put _ _ _ _ _ _ _ _ _ (search needs) (c .before .before .before .before .before .before .before .before .template-size .ensures .0) (c .before .before .before .before .before .before .put-group-start .ensures) (c .before .before .put-group-rest .ensures)
 
 pub put-group-spec : {M : Type 1} → statement M
 put-group-spec =

@@ -1,5 +1,5 @@
 -- `eb_mlme::put_group_rest` meets its contract. Assumes nothing.
-use Rattle.eb_mlme.proofs.GroupLaws.{grouping}
+use Rattle.eb_mlme.proofs.GroupLaws.{rest-put}
 use borrow.Author.Needs.{needs}
 use Rattle.eb_mlme.proofs.put_group_rest.Statement.{statement}
 use Rattle.eb_mlme.proofs.put_group_rest.Tie as tie
@@ -23,7 +23,7 @@ same-length : tie.Need-same-length
 same-length c = search needs
 
 returns : tie.Need-returns
-returns c = search (needs, grouping)
+returns c = rest-put _ _ _ _ _ _ (c .before .before .before .before .before .before .put-le .ensures .0) (c .before .before .put-slotframe .ensures)
 
 pub put-group-rest-spec : {M : Type 1} → statement M
 put-group-rest-spec =

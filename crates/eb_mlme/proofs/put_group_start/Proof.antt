@@ -1,5 +1,5 @@
 -- `eb_mlme::put_group_start` meets its contract. Assumes nothing.
-use Rattle.eb_mlme.proofs.GroupLaws.{grouping}
+use Rattle.eb_mlme.proofs.GroupLaws.{group-starts}
 use borrow.Author.Needs.{needs}
 use Rattle.eb_mlme.proofs.put_group_start.Statement.{statement}
 use Rattle.eb_mlme.proofs.put_group_start.Tie as tie
@@ -32,7 +32,7 @@ same-length : tie.Need-same-length
 same-length c = search needs
 
 returns : tie.Need-returns
-returns c = search (needs, grouping)
+returns c = group-starts _ _ _ _ _ _ _ _ _ _ (c .before .before .before .before .before .before .before .before .before .before .before .before .group-size .ensures .0) (c .before .before .before .before .before .before .before .synchronization-number .ensures) (c .before .before .before .before .before .before .before .before .before .before .before .put-le .ensures .0) (c .before .before .before .before .before .before .put-le2 .ensures .0) (c .before .before .put-template .ensures)
 
 pub put-group-start-spec : {M : Type 1} → statement M
 put-group-start-spec =

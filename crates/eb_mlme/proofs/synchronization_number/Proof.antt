@@ -1,5 +1,5 @@
 -- `eb_mlme::synchronization_number` meets its contract. Assumes nothing.
-use Rattle.eb_mlme.proofs.GroupLaws.{grouping}
+use Rattle.eb_mlme.proofs.GroupLaws.{synchronization-number}
 use borrow.Author.Needs.{needs}
 use Rattle.eb_mlme.proofs.synchronization_number.Statement.{statement}
 use Rattle.eb_mlme.proofs.synchronization_number.Tie as tie
@@ -20,7 +20,7 @@ add-result-2 : tie.Need-add-result-2
 add-result-2 c = search needs
 
 returns : tie.Need-returns
-returns c = search (needs, grouping)
+returns c = synchronization-number _
 
 pub synchronization-number-spec : {M : Type 1} → statement M
 synchronization-number-spec =

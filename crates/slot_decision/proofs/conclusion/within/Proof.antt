@@ -1,11 +1,10 @@
 -- `slot_decision::conclusion::within` meets its contract. Assumes nothing.
-use Rattle.slot_spec.proofs.SlotLaws.{slots}
-use borrow.Author.Needs.{needs}
+use Rattle.slot_spec.proofs.SlotLaws.{checks}
 use Rattle.slot_decision.proofs.conclusion.within.Statement.{statement}
 use Rattle.slot_decision.proofs.conclusion.within.Tie as tie
 
 returns : tie.Need-returns
-returns c = search (needs, slots)
+returns c = checks _ _ _ _ _
 
 pub within-spec : {M : Type 1} → statement M
 within-spec = tie.close (tie.spec returns)

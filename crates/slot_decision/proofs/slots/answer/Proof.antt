@@ -1,6 +1,6 @@
 -- `slot_decision::slots::answer` meets its contract. Assumes nothing.
 use borrow.Author.Needs.{needs}
-use Rattle.slot_spec.proofs.SlotLaws.{slots}
+use Rattle.slot_spec.proofs.SlotLaws.{answers-refused, slots}
 use Rattle.slot_decision.proofs.slots.answer.Statement.{statement}
 use Rattle.slot_decision.proofs.slots.answer.Tie as tie
 
@@ -17,7 +17,7 @@ enum-known-decision-2 : tie.Need-enum-known-decision-2
 enum-known-decision-2 c = search needs
 
 returns : tie.Need-returns
-returns c = search (needs, slots)
+returns c = answers-refused _ (search needs)
 
 returns-2 : tie.Need-returns-2
 returns-2 c = search (needs, slots)
