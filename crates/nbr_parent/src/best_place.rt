@@ -27,17 +27,11 @@ fn lower(kept: Offer, other: Offer) -> Offer
 fn sought(found: Sought, place: Place, id: u64) -> Sought
     ensures { λ r. ⌜ r ≡ soughtOf id found place ⌝ }
 {
-    if found.missing {
-        if place.used {
-            if place.id == id {
-                return Sought {
-                    missing: false,
-                    place,
-                };
-            }
-            return found;
-        }
-        return found;
+    if found.missing & (place.used & (place.id == id)) {
+        return Sought {
+            missing: false,
+            place,
+        };
     }
     found
 }
@@ -58,13 +52,11 @@ pub fn survey(places: [Place; 32], parent: nbr_table_spec::Parent) -> Survey
     let mut i = 0;
     while i < nbr_table_spec::PLACES {
         let place = places[i];
-        kept = lower(
-            kept,
-            Offer {
-                cost: nbr_metric::offer(place),
-                id: place.id,
-            },
-        );
+        let offered = Offer {
+            cost: nbr_metric::offer(place),
+            id: place.id,
+        };
+        kept = lower(kept, offered);
         found = sought(found, place, id);
         i += 1;
     }

@@ -4,7 +4,7 @@ use Prim.Native.Nat.{ℕ, suc, _+_, _-_, _<_, _≤_}
 use native.Mathlib.Numerals.{add-one}
 use native.Mathlib.Omega.{arith}
 use mathlib.Core.Path.{_≡_, refl, sym, ap, subst, _∙_}
-use mathlib.Core.Bool.{Bool, true, false}
+use mathlib.Core.Bool.{Bool, true, false, _&&_}
 use mathlib.Core.List.{List, [], _∷_}
 use mathlib.Core.Logic.{_⊎_, ⊎-elim, inl, inr}
 use lib.ListN.{length, getD, drop, drop-of-length-le}
@@ -12,7 +12,7 @@ use lib.Seq.{drop-cons}
 use mir.Syntax.{w16}
 use mir.Val.{Fits}
 use Rattle.octets_spec.specs.Choice.{ifOn}
-use borrow.Author.Tests.{eq-eqb, ne-eqb}
+use lib.Dec.{eqb}
 use Rattle.octets_spec.proofs.ChoiceLaws.{by-lt, by-test, choices}
 use Rattle.nbr_metric_spec.specs.declared.Place.{Place}
 use Rattle.nbr_metric_spec.specs.Metric.{blank, eligible, offer, pathCost}
@@ -113,32 +113,13 @@ module _ (o : Offer) (ps : List Place) (i : ℕ) (w : Offer) where
 
 -- ---- the held parent, looked for in the same walk
 module _ (id : ℕ) (found : Sought) (p : Place) where
-  pub sought-before : found .missing ≡ false → found ≡ sought id found p
-  unfolding sought
+  pub sought-here : (found .missing && (p .used && eqb (p .id) id)) ≡ true → _≡_ {A = Sought} (record { missing = false; place = p }) (sought id found p)
+  unfolding sought named
+  sought-here e = search choices
+
+  pub sought-before : (found .missing && (p .used && eqb (p .id) id)) ≡ false → found ≡ sought id found p
+  unfolding sought named
   sought-before e = search choices
-
-  module _ (e : found .missing ≡ true) where
-    pub sought-free : p .used ≡ false → found ≡ sought id found p
-    unfolding sought named
-    sought-free u = let f : named id p ≡ false = rw u in search choices
-
-    pub sought-other : p .used ≡ true → (p .id ≡ id → ⊥) → found ≡ sought id found p
-    unfolding sought named
-    sought-other u h = let f : named id p ≡ false = rw (u, ne-eqb (p .id) id h) in search choices
-
-    pub sought-here : p .used ≡ true → p .id ≡ id → _≡_ {A = Sought} (record { missing = false; place = p }) (sought id found p)
-    unfolding sought named
-    sought-here u h = let f : named id p ≡ true = rw (u, eq-eqb (p .id) id h) in search choices
-
--- the same by the definition of a neighbour's place
-module _ (id : ℕ) (found : Sought) (p : Place) (e : found .missing ≡ true) where
-  sought-not : named id p ≡ false → found ≡ sought id found p
-  unfolding sought
-  sought-not f = search choices
-
-  sought-it : named id p ≡ true → _≡_ {A = Sought} (record { missing = false; place = p }) (sought id found p)
-  unfolding sought
-  sought-it f = search choices
 
 -- the held parent is found among the places passed, or still looked for among the others
 pub record Seeking (id : ℕ) (ps : List Place) (i : ℕ) (whole : Place) (found : Sought) : Type 0 where
@@ -161,21 +142,21 @@ target-is (Held n) ps held id e f = rw (e, f)
 
 module _ (id : ℕ) (ps : List Place) (i : ℕ) (whole : Place) (found : Sought) (s : Seeking id ps i whole found) where
   pub seeking-next : (r : Sought) → i < length ps → r ≡ sought id found (getD ps i blank) → Seeking id ps (i + 1) whole r
-  unfolding firstOf
+  unfolding firstOf named
   seeking-next r l e =
       by-test (found .missing)
       (λ m.
       by-test (named id (getD ps i blank))
       (λ n.
-      let k : r ≡ record { missing = false; place = getD ps i blank } = e ∙ sym (sought-it id found (getD ps i blank) m n) in
+      let k : r ≡ record { missing = false; place = getD ps i blank } = e ∙ sym (sought-here id found (getD ps i blank) (rw m n)) in
       let g : getD ps i blank ≡ whole = rw (drop-cons ps i blank l, n) at (s .wanted m .1) in
       record { wanted = λ h. clash (r .missing) h (ap (λ (z : Sought). z .missing) k); settled = λ h. ap (λ (z : Sought). z .place) k ∙ g })
       (λ n.
-      let k : r ≡ found = e ∙ sym (sought-not id found (getD ps i blank) m n) in
+      let k : r ≡ found = e ∙ sym (sought-before id found (getD ps i blank) (rw m n)) in
       let g : firstOf (named id) (drop (suc i) ps) ≡ whole = rw (drop-cons ps i blank l, n) at (s .wanted m .1) in
       record { wanted = λ h. (ap (λ (z : Sought). z .place) k ∙ s .wanted m .0, rw add-one g); settled = λ h. clash (r .missing) (ap (λ (z : Sought). z .missing) k ∙ m) h }))
       (λ m.
-      let k : r ≡ found = e ∙ sym (sought-before id found (getD ps i blank) m) in
+      let k : r ≡ found = e ∙ sym (sought-before id found (getD ps i blank) (rw m)) in
       record { wanted = λ h. clash (r .missing) h (ap (λ (z : Sought). z .missing) k ∙ m); settled = λ h. ap (λ (z : Sought). z .place) k ∙ s .settled m })
 
   seeking-end : (n : ℕ) → length ps ≡ n → n ≤ i → found .place ≡ whole
@@ -238,7 +219,7 @@ module _ (q : Parent) (ps : List Place) (v : Survey) (x : ℕ) (d : v ≡ survey
 pub offer-fits : (k : ℕ) → k < 65535 → Fits w16 k
 offer-fits k h = record { fits = omega arith }
 
-pub ruleset bestWays = (lower-cost, lower-kept, lower-id, lower-tie, sought-before, sought-free, sought-other, sought-here)
+pub ruleset bestWays = (lower-cost, lower-kept, lower-id, lower-tie, sought-here, sought-before)
 
 pub survey-is : (id : ℕ) (ps : List Place) (i : ℕ) (held : Bool) (found : Sought) (n : ℕ) (q : Parent) (o : Offer) → Seeking id ps i (target id ps held) found → length ps ≡ n → n ≤ i → held ≡ markOf q → id ≡ idOf q → lowest o (drop i ps) ≡ offerOf (best ps) → _≡_ {A = Survey} (record { best = o; held = found .place }) (surveyed ps q)
 survey-is id ps i held found n q o s e l m k h = surveyed-is id ps i (target id ps held) found s n q held o e l refl m k h

@@ -1,7 +1,7 @@
 -- How the code goes about an evaluation: one walk over the places keeps the lowest offer so far, a cost and an identifier, and looks
 -- for the held parent (docs/RULES.md, Neighbours). The best place of the rules stands in Places.antt; proofs/OfferLaws.antt shows that both agree. Assumes nothing.
 use Prim.Native.Nat.{ℕ}
-use mathlib.Core.Bool.{false}
+use mathlib.Core.Bool.{false, _&&_}
 use mathlib.Core.List.{List, [], _∷_}
 use Rattle.octets_spec.specs.Choice.{ifLt, ifOn}
 use Rattle.nbr_metric_spec.specs.declared.Place.{Place}
@@ -30,8 +30,7 @@ lowest kept (place ∷ places) = lowest (lower kept (offerOf place)) places
 
 -- the held parent once one place more was looked at: the first place in use by it
 unfoldable pub sought : ℕ → Sought → Place → Sought
-sought id found place =
-    ifOn (found .missing) (ifOn (named id place) (record { missing = false; place = place }) found) found
+sought id found place = ifOn (found .missing && named id place) (record { missing = false; place = place }) found
 
 -- what one walk over the places finds
 abbrev pub surveyed : List Place → Parent → Survey

@@ -10,11 +10,5 @@ returns c = search (needs, bestWays)
 returns-2 : tie.Need-returns-2
 returns-2 c = search (needs, bestWays)
 
-returns-3 : tie.Need-returns-3
-returns-3 c = search (needs, bestWays)
-
-returns-4 : tie.Need-returns-4
-returns-4 c = search (needs, bestWays)
-
 pub sought-spec : {M : Type 1} → statement M
-sought-spec = tie.close (tie.spec returns returns-2 returns-3 returns-4)
+sought-spec = tie.close (tie.spec returns returns-2)
