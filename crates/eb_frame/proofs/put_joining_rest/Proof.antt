@@ -35,7 +35,7 @@ same-length : tie.Need-same-length
 same-length c = search needs
 
 returns : tie.Need-returns
-returns c = rest-put _ _ (c .before .before .before .before .before .before .before .before .before .before .before .before .args .joining) _ _ _ _ (c .before .before .before .before .before .before .before .before .before .flag-of .ensures .0) (search needs) (c .before .before .before .at-most-16 .ensures .0) (c .before .before .before .before .before .before .before .put-be .ensures .0) (c .before .before .put-network .ensures)
+returns c = rest-put _ _ (c .before .before .before .before .before .before .before .before .before .before .before .before .before .args .joining) _ _ _ _ (c .before .before .before .before .before .before .before .before .before .before .flag-of .ensures .0) (search needs) (c .before .before .before .at-most-16 .ensures .0) (c .before .before .before .before .before .before .before .before .put-be .ensures .0) (c .before .before .put-network .ensures)
 
 pub put-joining-rest-spec : {M : Type 1} → statement M
 put-joining-rest-spec =

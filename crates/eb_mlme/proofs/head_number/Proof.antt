@@ -32,7 +32,7 @@ add-result-5 : tie.Need-add-result-5
 add-result-5 c = search needs
 
 returns : tie.Need-returns
-returns c = head-number _ _ _ (search needs) (search needs) (search needs)
+returns c = head-number _ _ _ (search needs) (search needs)
 
 pub head-number-spec : {M : Type 1} → statement M
 head-number-spec =
