@@ -72,5 +72,3 @@ widen (outer.Group b e) from length end fits buffer within = (within .0, within 
 widen (outer.Joining b e) from length end fits buffer within = (within .0, within .1, omega arith)
 widen (outer.Skip e) from length end fits buffer within = (within .0, omega arith)
 widen (outer.Fault number) from length end fits buffer within = tt
-
-pub ruleset steps = (header-end, header-cut, header-here, outer-end, outer-cut, outer-here, inner-end, inner-cut, inner-here)

@@ -5,7 +5,7 @@ use Rattle.octets.proofs.get.be.Statement.{statement}
 use Rattle.octets.proofs.get.be.Tie as tie
 
 returns : tie.Need-returns
-returns c = search (needs, be-past, positive)
+returns c = (be-past _ _ _ (search needs), positive _)
 
 at-most-8-requires : tie.Need-at-most-8-requires
 at-most-8-requires c κs = search needs

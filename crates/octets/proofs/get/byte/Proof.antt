@@ -11,7 +11,7 @@ wide-requires : tie.Need-wide-requires
 wide-requires c κs = search needs
 
 returns : tie.Need-returns
-returns c = search needs
+returns c = c .wide .ensures
 
 returns-2 : tie.Need-returns-2
 returns-2 c = search (needs, List·getD-eq-default)

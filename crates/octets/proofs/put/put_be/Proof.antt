@@ -1,6 +1,7 @@
 -- `octets::put::put_be` meets its contract. Assumes nothing.
 use Prim.Native.Nat.{_+_, _-_, _/_, _^_, _≤_}
 use mathlib.Core.Path.{_≡_}
+use mathlib.Core.List.{[]}
 use lib.ListN.{length}
 use borrow.Author.Needs.{needs}
 use Rattle.octets_spec.specs.Number.{beBytes, stored}
@@ -39,7 +40,7 @@ loop-less : tie.Need-loop-less Inv-loop μ-loop
 loop-less c = search (needs, stored-out, be-start, be-start-rest, be-next, be-next-rest, be-end, be-reads)
 
 loop-again : tie.Need-loop-again Inv-loop μ-loop
-loop-again c = search (needs, stored-out, be-start, be-start-rest, be-next, be-next-rest, be-end, be-reads)
+loop-again c = (search needs, search needs, be-next-rest [] [] 0 _ _ _ _ (c .before .before .before .before .loop-test .taken) (c .before .before .before .before .before .loop .inv .0) (c .before .before .before .before .before .loop .inv .2), be-next _ _ _ _ _ _ _ (c .before .before .before .before .loop-test .taken) (c .before .before .before .before .before .loop .inv .0) (c .before .before .before .before .before .loop .inv .2) _ (c .before .before .put-byte .ensures) (c .before .before .before .before .before .loop .inv .3))
 
 same-length : tie.Need-same-length Inv-loop μ-loop
 same-length c = search (needs, stored-out, be-start, be-start-rest, be-next, be-next-rest, be-end, be-reads)

@@ -20,7 +20,7 @@ same-length : tie.Need-same-length
 same-length c = search needs
 
 returns-2 : tie.Need-returns-2
-returns-2 c = search (needs, stored-out, le-cut-at, le-reads)
+returns-2 c = (le-cut-at _ _ _ _ _ (c .before .before .before .before .if2 .taken) (c .before .before .put-le-within .ensures), search (needs, le-cut-at, le-reads))
 
 put-le-within-requires-2 : tie.Need-put-le-within-requires-2
 put-le-within-requires-2 c κs = search needs
@@ -29,7 +29,7 @@ same-length-2 : tie.Need-same-length-2
 same-length-2 c = search needs
 
 returns-3 : tie.Need-returns-3
-returns-3 c = search (needs, stored-out, le-cut-at, le-reads)
+returns-3 c = (c .before .before .put-le-within2 .ensures, search (needs, le-reads))
 
 pub put-le-spec : {M : Type 1} → statement M
 put-le-spec =

@@ -1,6 +1,6 @@
 -- `octets::put::put_le_within` meets its contract. Assumes nothing.
 use Prim.Native.Nat.{_+_, _-_, _≤_}
-use mathlib.Core.Path.{_≡_}
+use mathlib.Core.Path.{_≡_, refl}
 use lib.ListN.{length}
 use Rattle.octets_spec.specs.Number.{leBytes, stored}
 use Rattle.octets_spec.proofs.PutLaws.{le-start, le-next, le-end}
@@ -36,7 +36,7 @@ loop-less : tie.Need-loop-less Inv-loop μ-loop
 loop-less c = search (needs, le-start, le-next, le-end)
 
 loop-again : tie.Need-loop-again Inv-loop μ-loop
-loop-again c = search (needs, le-start, le-next, le-end)
+loop-again c = (search needs, search needs, le-next _ _ _ _ _ _ _ (c .loop-test .taken) refl (c .before .loop .inv .2))
 
 same-length : tie.Need-same-length Inv-loop μ-loop
 same-length c = search (needs, le-start, le-next, le-end)
