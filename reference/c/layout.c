@@ -89,9 +89,9 @@ int main(void)
     FIELD(neighbour, in_use, 14, 1);
 
     SIZE(table, 528);
-    FIELD(table, neighbours, 0, 512);
-    FIELD(table, has_parent, 512, 1);
-    FIELD(table, parent, 520, 8);
+    FIELD(table, has_parent, 0, 1);
+    FIELD(table, parent, 8, 8);
+    FIELD(table, neighbours, 16, 512);
 
     SIZE(table_answer, 536);
     FIELD(table_answer, number, 0, 1);
