@@ -79,7 +79,7 @@ EvaluationsAgree =
 -- how many evaluations answered C that the parent changed
 unfoldable pub flagged : List FormEntryExit → ℕ
 flagged [] = 0
-flagged (v ∷ visits) = cond (evaluatedForm (v .entry) .changed) 1 0 + flagged visits
+flagged (visit ∷ visits) = cond (evaluatedForm (visit .entry) .changed) 1 0 + flagged visits
 
 -- C is told of every change of the parent, and of no other
 abbrev pub ChangesAreFlagged : Type 0
@@ -96,7 +96,7 @@ appliesInC form calls =
 -- no evaluation answered a refusal
 unfoldable pub noneRefusedInC : List FormEntryExit → Bool
 noneRefusedInC [] = true
-noneRefusedInC (v ∷ visits) = eqb (evaluatedForm (v .entry) .number) 0 && noneRefusedInC visits
+noneRefusedInC (visit ∷ visits) = eqb (evaluatedForm (visit .entry) .number) 0 && noneRefusedInC visits
 
 -- the claim
 abbrev pub ParentsDoNotFlapInC : Type 0

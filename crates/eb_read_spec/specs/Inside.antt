@@ -53,7 +53,7 @@ AcceptedLiesInside = (s : List ℕ) → examined s .number ≡ done → liesInsi
 -- ---- the same as facts, which functions that read without a test ask for
 -- a timeslot element has 25 bytes, 27 or 1
 abbrev pub TimeslotLength : ℕ → Type 0
-TimeslotLength n = (n ≡ 25) ⊎ ((n ≡ 27) ⊎ (n ≡ 1))
+TimeslotLength size = (size ≡ 25) ⊎ ((size ≡ 27) ⊎ (size ≡ 1))
 
 -- joining information: four bytes, eight of an address if P, and 0 to 16 of a network ID
 pub record JoiningInside (s : List ℕ) (at to : ℕ) : Type 0 where

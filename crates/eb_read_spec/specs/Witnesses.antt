@@ -15,7 +15,7 @@ use Rattle.eb_read_spec.specs.Read.{examined, readFrame}
 
 -- a frame of 38 bytes, with one link (docs/RULES.md, A worked frame)
 abbrev pub shortest : List ℕ
-shortest = 64 ∷ 171 ∷ 52 ∷ 18 ∷ 255 ∷ 255 ∷ 7 ∷ 0 ∷ 0 ∷ 63 ∷ 26 ∷ 136 ∷ 6 ∷ 26 ∷ 0 ∷ 1 ∷ 0 ∷ 0 ∷ 0 ∷ 2 ∷ 1 ∷ 28 ∷ 0 ∷ 1 ∷ 200 ∷ 0 ∷ 10 ∷ 27 ∷ 1 ∷ 0 ∷ 11 ∷ 0 ∷ 1 ∷ 0 ∷ 0 ∷ 0 ∷ 0 ∷ 15 ∷ []
+shortest = 0x40 ∷ 0xAB ∷ 0x34 ∷ 0x12 ∷ 0xFF ∷ 0xFF ∷ 0x07 ∷ 0x00 ∷ 0x00 ∷ 0x3F ∷ 0x1A ∷ 0x88 ∷ 0x06 ∷ 0x1A ∷ 0x00 ∷ 0x01 ∷ 0x00 ∷ 0x00 ∷ 0x00 ∷ 0x02 ∷ 0x01 ∷ 0x1C ∷ 0x00 ∷ 0x01 ∷ 0xC8 ∷ 0x00 ∷ 0x0A ∷ 0x1B ∷ 0x01 ∷ 0x00 ∷ 0x0B ∷ 0x00 ∷ 0x01 ∷ 0x00 ∷ 0x00 ∷ 0x00 ∷ 0x00 ∷ 0x0F ∷ []
 
 -- its record
 abbrev pub shortestRecord : Beacon
@@ -44,9 +44,9 @@ SomeFrameIsAccepted = (s : List ℕ) × (readFrame s .number ≡ done) × (exami
 -- an accepted frame may have joining information: its element stands behind the group of the frame above
 abbrev pub SomeFrameHasJoiningInformation : Type 0
 SomeFrameHasJoiningInformation =
-    let s : List ℕ = shortest ++ (5 ∷ 168 ∷ 2 ∷ 0 ∷ 0 ∷ 0 ∷ 0 ∷ []) in
+    let s : List ℕ = shortest ++ (0x05 ∷ 0xA8 ∷ 0x02 ∷ 0x00 ∷ 0x00 ∷ 0x00 ∷ 0x00 ∷ []) in
     (examined s .number ≡ done) × (examined s .walk .joining ≡ 41) × (readFrame s .beacon .joining .present ≡ true)
 
 -- each of the numbers 0 to 8 is given by some list
 abbrev pub EachNumberIsGiven : Type 0
-EachNumberIsGiven = (n : ℕ) → n ≤ 8 → (s : List ℕ) × (readFrame s .number ≡ n)
+EachNumberIsGiven = (number : ℕ) → number ≤ 8 → (s : List ℕ) × (readFrame s .number ≡ number)

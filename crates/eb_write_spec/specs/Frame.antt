@@ -17,41 +17,41 @@ use Rattle.eb_record_spec.specs.declared.JoiningInformation.{JoiningInformation
 use Rattle.eb_record_spec.specs.declared.Beacon.{Beacon}
 
 -- ---- the IDs of elements (IEEE 802.15.4-2015, 7.4)
--- the header element header termination 1, 0x7E: it ends the header list, and payload elements follow
+-- the header element header termination 1: it ends the header list, and payload elements follow
 abbrev pub headerTermination1 : ℕ
-headerTermination1 = 126
+headerTermination1 = 0x7E
 
--- the payload group MLME, 0x1
+-- the payload group MLME
 abbrev pub mlmeGroup : ℕ
-mlmeGroup = 1
+mlmeGroup = 0x1
 
--- the payload group IETF, 0x5 (RFC 8137)
+-- the payload group IETF (RFC 8137)
 abbrev pub ietfGroup : ℕ
-ietfGroup = 5
+ietfGroup = 0x5
 
--- in it, the subtype of joining information, 0x2 (RFC 9032)
+-- in it, the subtype of joining information (RFC 9032)
 abbrev pub joiningSubtype : ℕ
-joiningSubtype = 2
+joiningSubtype = 0x2
 
--- the short sub-element synchronization, 0x1A
+-- the short sub-element synchronization
 abbrev pub synchronizationId : ℕ
-synchronizationId = 26
+synchronizationId = 0x1A
 
--- the short sub-element slotframe and link, 0x1B
+-- the short sub-element slotframe and link
 abbrev pub slotframeId : ℕ
-slotframeId = 27
+slotframeId = 0x1B
 
--- the short sub-element timeslot, 0x1C
+-- the short sub-element timeslot
 abbrev pub timeslotId : ℕ
-timeslotId = 28
+timeslotId = 0x1C
 
--- the long sub-element channel hopping, 0x9
+-- the long sub-element channel hopping
 abbrev pub hoppingId : ℕ
-hoppingId = 9
+hoppingId = 0x9
 
--- the short address that all nodes receive, 0xFFFF
+-- the short address that all nodes receive
 abbrev pub broadcast : ℕ
-broadcast = 65535
+broadcast = 0xFFFF
 
 -- ---- frame control and the fixed fields
 -- the bit of frame control that says that the sequence number is suppressed

@@ -19,7 +19,7 @@ use Rattle.eb_record_spec.specs.Form.{sourceFits}
 -- a test holds of every entry of a list
 unfoldable pub allOf : {A : Type 0} → (A → Bool) → List A → Bool
 allOf test [] = true
-allOf test (x ∷ xs) = test x && allOf test xs
+allOf test (element ∷ elements) = test element && allOf test elements
 
 -- every number of a list is below a bound; below 1 it is zero
 unfoldable pub allBelow : ℕ → List ℕ → Bool

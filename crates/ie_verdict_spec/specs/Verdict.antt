@@ -50,10 +50,10 @@ slotframeFault bytes seen count size links below =
 unfoldable pub joiningFault : ℕ → ℕ → ℕ → ℕ
 joiningFault size seen proxied = ifLt size (4 + 8 * proxied) shape (ifLt (4 + 8 * proxied + 16) size shape (onceOnly seen))
 
--- the timeslots of n links from an offset on are below a size
+-- the timeslots of this many links from an offset on are below a size
 unfoldable pub timeslotsFit : List ℕ → ℕ → ℕ → ℕ → Bool
 timeslotsFit s at zero size = true
-timeslotsFit s at (suc n) size = ltb (leAt 2 s at) size && timeslotsFit s (at + 5) n size
+timeslotsFit s at (suc count) size = ltb (leAt 2 s at) size && timeslotsFit s (at + 5) count size
 
 -- a slotframe and link element that starts at `from`: slotframe count, handle, size (2 bytes), number of links, then five bytes a link
 unfoldable pub slotframeFaultAt : List ℕ → ℕ → ℕ → ℕ → ℕ

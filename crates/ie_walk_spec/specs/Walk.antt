@@ -19,7 +19,7 @@ use Rattle.ie_walk_spec.specs.declared.GroupEnd.the-variants as end-of
 
 -- one more, to 255: no frame has as many elements
 unfoldable pub bump : ℕ → ℕ
-bump n = ifLt n 255 (n + 1) n
+bump count = ifLt count 255 (count + 1) count
 
 -- which known elements were taken before
 unfoldable pub seenOf : Walk → Seen
@@ -106,7 +106,7 @@ unfoldable mutual
       elim (outerAt s at end) [
         | outer.End ↦ walk
         | outer.Group from to ↦ groupGo bound s from to end walk
-        | outer.Joining from to ↦ let t : Walk = partTaken s walk joiningKind from to at in ifEq (t .fault) done (outerGo bound s to end t) t
+        | outer.Joining from to ↦ let taken : Walk = partTaken s walk joiningKind from to at in ifEq (taken .fault) done (outerGo bound s to end taken) taken
         | outer.Skip to ↦ outerGo bound s to end (skipOne walk)
         | outer.Fault number ↦ stopped walk number at
       ]
@@ -117,23 +117,23 @@ unfoldable mutual
   groupGo (suc bound) s at to end walk =
       elim (innerAt s at to) [
         | inner.Back ↦ outerGo bound s to end walk
-        | inner.Part kind from next ↦ let t : Walk = partTaken s walk kind from next at in ifEq (t .fault) done (groupGo bound s next to end t) t
+        | inner.Part kind from next ↦ let taken : Walk = partTaken s walk kind from next at in ifEq (taken .fault) done (groupGo bound s next to end taken) taken
         | inner.Fault number ↦ stopped walk number at
       ]
 
 -- what the payload list gives, whatever the bound is, if it is large enough
 unfoldable pub OuterIs : List ℕ → ℕ → ℕ → Walk → Walk → Type 0
-OuterIs s at end walk r = (bound : ℕ) → 2 * (end - at) < bound → r ≡ outerGo bound s at end walk
+OuterIs s at end walk result = (bound : ℕ) → 2 * (end - at) < bound → result ≡ outerGo bound s at end walk
 
 -- the same of a group
 unfoldable pub GroupIs : List ℕ → ℕ → ℕ → ℕ → Walk → Walk → Type 0
-GroupIs s at to end walk r = (bound : ℕ) → 2 * (end - at) + 1 < bound → r ≡ groupGo bound s at to end walk
+GroupIs s at to end walk result = (bound : ℕ) → 2 * (end - at) + 1 < bound → result ≡ groupGo bound s at to end walk
 
 -- how the code goes: the reader of a group has what the whole gives, or it has passed the group, and what the list behind gives from
 -- there, the whole gives
 unfoldable pub GroupGives : List ℕ → ℕ → ℕ → ℕ → Walk → GroupEnd → Type 0
-GroupGives s at to end walk (end-of.Whole r) = GroupIs s at to end walk r
-GroupGives s at to end walk (end-of.Passed noted) = (r : Walk) → OuterIs s to end noted r → GroupIs s at to end walk r
+GroupGives s at to end walk (end-of.Whole result) = GroupIs s at to end walk result
+GroupGives s at to end walk (end-of.Passed noted) = (result : Walk) → OuterIs s to end noted result → GroupIs s at to end walk result
 
 -- the payload list from an offset to an end, with what was noted before
 unfoldable pub payloadList : List ℕ → ℕ → ℕ → Walk → Walk

@@ -9,29 +9,30 @@ use Rattle.nbr_metric_spec.specs.declared.Place.{Place}
 abbrev pub blank : Place
 blank = record { id = 0; rank = 0; attempts = 0; acked = 0; used = false }
 
--- n is the smallest whole number not below 256·(3t - 2a)/a
+-- `least` is the smallest whole number not below 256·(3 attempts - 2 acknowledged) / acknowledged
 unfoldable pub IsIncrement : ℕ → ℕ → ℕ → Type 0
-IsIncrement t a n = (256 * (3 * t - 2 * a) ≤ n * a) × ((m : ℕ) → 256 * (3 * t - 2 * a) ≤ m * a → n ≤ m)
+IsIncrement attempts acked least = (256 * (3 * attempts - 2 * acked) ≤ least * acked) × ((other : ℕ) → 256 * (3 * attempts - 2 * acked) ≤ other * acked → least ≤ other)
 
--- the increment of t attempts with a acknowledged, that number where a is at least 1 (`IncrementIsCeiling`), and 0 where a is 0
+-- the increment of so many attempts and acknowledged ones: that number where one is acknowledged at least (`IncrementIsCeiling`), else 0
 unfoldable pub increment : ℕ → ℕ → ℕ
-increment t a = ifEq a 0 0 ((256 * (3 * t - 2 * a) + (a - 1)) / a)
+increment attempts acked = ifEq acked 0 0 ((256 * (3 * attempts - 2 * acked) + (acked - 1)) / acked)
 
 -- the definition is the ceiling that the rules ask for
 abbrev pub IncrementIsCeiling : Type 0
-IncrementIsCeiling = (t a : ℕ) → 1 ≤ a → IsIncrement t a (increment t a)
+IncrementIsCeiling = (attempts acked : ℕ) → 1 ≤ acked → IsIncrement attempts acked (increment attempts acked)
 
 -- the path cost of a place: its rank and its increment
 unfoldable pub pathCost : Place → ℕ
-pathCost p = p .rank + increment (p .attempts) (p .acked)
+pathCost place = place .rank + increment (place .attempts) (place .acked)
 
--- whether a place is eligible: in use, rank at least 256, a at least 1, 3t at most 11a, cost at most 65534
+-- whether a place is eligible: in use, rank at least 256, one attempt acknowledged at least, 3 times the attempts
+-- at most 11 times the acknowledged ones, cost at most 65534
 unfoldable pub eligible : Place → Bool
-eligible p =
-    p .used
-    && (leb 256 (p .rank)
-    && (leb 1 (p .acked) && (leb (3 * p .attempts) (11 * p .acked) && leb (pathCost p) 65534)))
+eligible place =
+    place .used
+    && (leb 256 (place .rank)
+    && (leb 1 (place .acked) && (leb (3 * place .attempts) (11 * place .acked) && leb (pathCost place) 65534)))
 
 -- what a place offers a node as its own rank: its cost if it is eligible, else 65535, which is no parent's
 unfoldable pub offer : Place → ℕ
-offer p = ifOn (eligible p) (pathCost p) 65535
+offer place = ifOn (eligible place) (pathCost place) 65535

@@ -22,32 +22,32 @@ log kinds ids values flags = record { kinds = kinds; ids = ids; values = values;
 -- the call of a row: kind 0 advertises the identifier with the value as rank; 1 reports the value as attempts,
 -- acknowledged where the flag is 1; 2 forgets the identifier; 3 evaluates. What a kind does not name is not looked at
 unfoldable pub call : ℕ → ℕ → ℕ → ℕ → Call
-call kind n value flag = ifEq kind 0 (Advertise n value) (ifEq kind 1 (Report n value (eqb flag 1)) (ifEq kind 2 (Forget n) Evaluate))
+call kind id value flag = ifEq kind 0 (Advertise id value) (ifEq kind 1 (Report id value (eqb flag 1)) (ifEq kind 2 (Forget id) Evaluate))
 
 -- the call of row i
 abbrev pub callAt : Log → ℕ → Call
-callAt l i = call (getD (l .kinds) i 0) (getD (l .ids) i 0) (getD (l .values) i 0) (getD (l .flags) i 0)
+callAt rows i = call (getD (rows .kinds) i 0) (getD (rows .ids) i 0) (getD (rows .values) i 0) (getD (rows .flags) i 0)
 
 -- the calls of the first k rows
 unfoldable pub callsTo : Log → ℕ → List Call
-callsTo l zero = []
-callsTo l (suc k) = callsTo l k ++ (callAt l k ∷ [])
+callsTo rows zero = []
+callsTo rows (suc k) = callsTo rows k ++ (callAt rows k ∷ [])
 
 -- the calls of all rows
 abbrev pub calls : Log → List Call
-calls l = callsTo l (length (l .kinds))
+calls rows = callsTo rows (length (rows .kinds))
 
--- some number of a list is over m
+-- some number of a list is over a limit
 unfoldable pub someOver : ℕ → List ℕ → Bool
-someOver m [] = false
-someOver m (x ∷ xs) = ltb m x || someOver m xs
+someOver limit [] = false
+someOver limit (number ∷ numbers) = ltb limit number || someOver limit numbers
 
 -- the lists are equally long
 unfoldable pub equallyLong : Log → Bool
-equallyLong l =
-    eqb (length (l .ids)) (length (l .kinds))
-    && (eqb (length (l .values)) (length (l .kinds)) && eqb (length (l .flags)) (length (l .kinds)))
+equallyLong rows =
+    eqb (length (rows .ids)) (length (rows .kinds))
+    && (eqb (length (rows .values)) (length (rows .kinds)) && eqb (length (rows .flags)) (length (rows .kinds)))
 
 -- a log that is refused: lists not equally long, over 65535 rows, a kind over 3 or a flag over 1
 unfoldable pub unfitLog : Log → Bool
-unfitLog l = not (equallyLong l) || (ltb 65535 (length (l .kinds)) || (someOver 3 (l .kinds) || someOver 1 (l .flags)))
+unfitLog rows = not (equallyLong rows) || (ltb 65535 (length (rows .kinds)) || (someOver 3 (rows .kinds) || someOver 1 (rows .flags)))

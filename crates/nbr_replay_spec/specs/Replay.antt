@@ -14,28 +14,28 @@ use Rattle.nbr_replay_spec.specs.Log.{Log, calls, unfitLog}
 
 -- the table at the end of a list of calls
 unfoldable pub final : Table → List Call → Table
-final t [] = t
-final t (c ∷ cs) = final (after t c) cs
+final table [] = table
+final table (call ∷ calls) = final (after table call) calls
 
 -- a refusal: the table as it was, and all counts 0
 abbrev pub refusedReplay : ℕ → Table → Outcome
-refusedReplay number t =
-    record { number = number; table = t; evaluations = 0; changes = 0; rises = 0; first = 0; last = 0; applies = false }
+refusedReplay number table =
+    record { number = number; table = table; evaluations = 0; changes = 0; rises = 0; first = 0; last = 0; applies = false }
 
 -- what a list of calls comes to
 abbrev pub outcome : Table → List Call → Outcome
-outcome t cs =
+outcome table calls =
     record {
       number = done;
-      table = final t cs;
-      evaluations = length (evaluations t cs);
-      changes = changes (evaluations t cs);
-      rises = rises (evaluations t cs);
-      first = firstCost (evaluations t cs);
-      last = lastCost (evaluations t cs);
-      applies = applies t cs;
+      table = final table calls;
+      evaluations = length (evaluations table calls);
+      changes = changes (evaluations table calls);
+      rises = rises (evaluations table calls);
+      first = firstCost (evaluations table calls);
+      last = lastCost (evaluations table calls);
+      applies = applies table calls;
     }
 
 -- the answer: a table or a log that is refused is 8
 unfoldable pub replayed : Table → Log → Outcome
-replayed t l = ifOn (broken t) (refusedReplay outOfLimits t) (ifOn (unfitLog l) (refusedReplay outOfLimits t) (outcome t (calls l)))
+replayed table rows = ifOn (broken table) (refusedReplay outOfLimits table) (ifOn (unfitLog rows) (refusedReplay outOfLimits table) (outcome table (calls rows)))

@@ -83,8 +83,8 @@ pub record Room (counts : Counts) : Type 0 where
   pub changes : counts .changes < 2 ^ 31
   pub rises : counts .rises < 2 ^ 62
 
--- r has at most one evaluation more than counts
-pub record OneMore (counts r : Counts) : Type 0 where
-  pub evaluations : r .evaluations ≤ counts .evaluations + 1
-  pub changes : r .changes ≤ counts .changes + 1
-  pub rises : r .rises ≤ counts .rises + 2 ^ 30
+-- the next counts have at most one evaluation more
+pub record OneMore (counts next : Counts) : Type 0 where
+  pub evaluations : next .evaluations ≤ counts .evaluations + 1
+  pub changes : next .changes ≤ counts .changes + 1
+  pub rises : next .rises ≤ counts .rises + 2 ^ 30

@@ -5,13 +5,13 @@ use Rattle.nbr_table_spec.specs.declared.Table.{Table}
 use Rattle.nbr_table_spec.specs.Calls.{held, heldCost, sameParent}
 use Rattle.nbr_replay_spec.specs.declared.Visit.{Visit}
 
--- an evaluation that got t and gave back u: 1 for a change of the parent, the held parent's cost on entry and on exit, and
+-- an evaluation that got a table and gave back another: 1 for a change of the parent, the held parent's cost on entry and on exit, and
 -- whether the parent held on entry is eligible there
 abbrev pub visited : Table → Table → Visit
-visited t u =
+visited before after =
     record {
-      change = cond (sameParent (t .parent) (u .parent)) 0 1;
-      entry = heldCost t;
-      exit = heldCost u;
-      eligible = eligible (held t);
+      change = cond (sameParent (before .parent) (after .parent)) 0 1;
+      entry = heldCost before;
+      exit = heldCost after;
+      eligible = eligible (held before);
     }

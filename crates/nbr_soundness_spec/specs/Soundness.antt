@@ -15,46 +15,46 @@ use Rattle.nbr_table_spec.specs.Calls.{advertised, broken, evaluated, forgotten
 -- every call keeps a table that is not refused so
 abbrev pub CallsKeepTables : Type 0
 CallsKeepTables =
-    (t : Table) → broken t ≡ false →
-    ((n rank : ℕ) → broken (advertised t n rank .table) ≡ false)
-    × ((n attempts : ℕ) (acked : Bool) → broken (reported t n attempts acked .table) ≡ false)
-    × ((n : ℕ) → broken (forgotten t n .table) ≡ false)
-    × (broken (evaluated t .table) ≡ false)
+    (table : Table) → broken table ≡ false →
+    ((id rank : ℕ) → broken (advertised table id rank .table) ≡ false)
+    × ((id attempts : ℕ) (acked : Bool) → broken (reported table id attempts acked .table) ≡ false)
+    × ((id : ℕ) → broken (forgotten table id .table) ≡ false)
+    × (broken (evaluated table .table) ≡ false)
 
--- b is not after p by least cost, then lower identifier
+-- the first place is not after the other by least cost, then lower identifier
 abbrev pub NotAfter : Place → Place → Type 0
-NotAfter b p = (pathCost b ≤ pathCost p) × (pathCost b ≡ pathCost p → b .id ≤ p .id)
+NotAfter first place = (pathCost first ≤ pathCost place) × (pathCost first ≡ pathCost place → first .id ≤ place .id)
 
 -- the best place is eligible as soon as any place is, and comes first by least cost, then lower identifier, among all eligible
 abbrev pub BestComesFirst : Type 0
-BestComesFirst = (ps : List Place) (i : ℕ) → eligible (getD ps i blank) ≡ true → (eligible (best ps) ≡ true) × NotAfter (best ps) (getD ps i blank)
+BestComesFirst = (places : List Place) (i : ℕ) → eligible (getD places i blank) ≡ true → (eligible (best places) ≡ true) × NotAfter (best places) (getD places i blank)
 
 -- an eligible best place is one of the places
 abbrev pub BestIsAPlace : Type 0
-BestIsAPlace = (ps : List Place) → eligible (best ps) ≡ true → (i : ℕ) × (i < length ps) × (getD ps i blank ≡ best ps)
+BestIsAPlace = (places : List Place) → eligible (best places) ≡ true → (i : ℕ) × (i < length places) × (getD places i blank ≡ best places)
 
 -- evaluate sets the held parent and nothing else
 abbrev pub EvaluateKeepsPlaces : Type 0
-EvaluateKeepsPlaces = (t : Table) → evaluated t .table .places ≡ t .places
+EvaluateKeepsPlaces = (table : Table) → evaluated table .table .places ≡ table .places
 
 -- where the held parent is eligible, evaluate gives the table back as it is, or a parent whose cost is lower by 641 at least
 abbrev pub ChangesGain641 : Type 0
 ChangesGain641 =
-    (t : Table) → eligible (held t) ≡ true →
-    (evaluated t .table ≡ t) ⊎ (pathCost (held (evaluated t .table)) + 641 ≤ pathCost (held t))
+    (table : Table) → eligible (held table) ≡ true →
+    (evaluated table .table ≡ table) ⊎ (pathCost (held (evaluated table .table)) + 641 ≤ pathCost (held table))
 
 -- once a neighbour is forgotten any neighbour can be advertised, also where the table was full
 abbrev pub ForgetMakesRoom : Type 0
-ForgetMakesRoom = (t : Table) (n m rank : ℕ) → broken t ≡ false → known n (t .places) ≡ true → advertised (forgotten t n .table) m rank .number ≡ 0
+ForgetMakesRoom = (table : Table) (id other rank : ℕ) → broken table ≡ false → known id (table .places) ≡ true → advertised (forgotten table id .table) other rank .number ≡ 0
 
 -- an evaluation that is done leaves no parent and own rank 65535, or an eligible parent whose cost is the own rank,
 -- from the parent's rank + 256 to 65534
 abbrev pub OwnRank : Type 0
 OwnRank =
-    (t : Table) → broken t ≡ false →
-    ((evaluated t .table .parent ≡ None) × (evaluated t .rank ≡ 65535))
-    ⊎ ((evaluated t .table .parent ≡ Held (held (evaluated t .table) .id))
-    × (eligible (held (evaluated t .table)) ≡ true)
-    × (evaluated t .rank ≡ pathCost (held (evaluated t .table)))
-    × (held (evaluated t .table) .rank + 256 ≤ evaluated t .rank)
-    × (evaluated t .rank ≤ 65534))
+    (table : Table) → broken table ≡ false →
+    ((evaluated table .table .parent ≡ None) × (evaluated table .rank ≡ 65535))
+    ⊎ ((evaluated table .table .parent ≡ Held (held (evaluated table .table) .id))
+    × (eligible (held (evaluated table .table)) ≡ true)
+    × (evaluated table .rank ≡ pathCost (held (evaluated table .table)))
+    × (held (evaluated table .table) .rank + 256 ≤ evaluated table .rank)
+    × (evaluated table .rank ≤ 65534))

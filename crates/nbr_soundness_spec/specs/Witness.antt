@@ -13,18 +13,18 @@ use Rattle.nbr_table_spec.specs.declared.Parent.the-variants.{None, Held}
 use Rattle.nbr_table_spec.specs.declared.Table.{Table}
 use Rattle.nbr_table_spec.specs.Calls.{advertised, answer, broken, emptyTable, evaluated, forgotten, held, reported}
 
--- neighbour n, at a path cost: one attempt, acknowledged, adds 256 to the rank
+-- a neighbour at a path cost: one attempt, acknowledged, adds 256 to the rank
 abbrev pub costing : ℕ → ℕ → Place
-costing n cost = record { id = n; rank = cost - 256; attempts = 1; acked = 1; used = true }
+costing id cost = record { id = id; rank = cost - 256; attempts = 1; acked = 1; used = true }
 
 -- neighbour 1 is held at a cost, neighbour 2 has another
 abbrev pub twoNeighbours : ℕ → ℕ → Table
 twoNeighbours heldAt otherAt = record { places = costing 1 heldAt ∷ costing 2 otherAt ∷ replicate 30 blank; parent = Held 1 }
 
--- k neighbours, from number n on
+-- so many neighbours, from an identifier on
 abbrev pub neighboursFrom : ℕ → ℕ → List Place
-neighboursFrom n zero = []
-neighboursFrom n (suc k) = costing n 512 ∷ neighboursFrom (suc n) k
+neighboursFrom id zero = []
+neighboursFrom id (suc count) = costing id 512 ∷ neighboursFrom (suc id) count
 
 -- a table with all 32 places in use, by neighbours 1 to 32
 abbrev pub fullTable : Table

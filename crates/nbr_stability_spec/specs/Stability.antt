@@ -10,92 +10,92 @@ use Rattle.nbr_table_spec.specs.Calls.{advertised, broken, evaluated, forgotten
 
 -- a call, with what it is given besides the table
 pub data Call : Type 0 where
-  Advertise : (n rank : ℕ) → Call
-  Report : (n attempts : ℕ) (acked : Bool) → Call
-  Forget : (n : ℕ) → Call
+  Advertise : (id rank : ℕ) → Call
+  Report : (id attempts : ℕ) (acked : Bool) → Call
+  Forget : (id : ℕ) → Call
   Evaluate : Call
 
 -- the table that a call gives back, refused or not
 unfoldable pub after : Table → Call → Table
-after t (Advertise n rank) = advertised t n rank .table
-after t (Report n attempts acked) = reported t n attempts acked .table
-after t (Forget n) = forgotten t n .table
-after t Evaluate = evaluated t .table
+after table (Advertise id rank) = advertised table id rank .table
+after table (Report id attempts acked) = reported table id attempts acked .table
+after table (Forget id) = forgotten table id .table
+after table Evaluate = evaluated table .table
 
 -- the tables that an evaluation gets and gives back
 pub record EntryExit : Type 0 where
   pub entry : Table
   pub exit : Table
 
--- the evaluations of a list: its first call gets t, each later one the table that the call before it gave back
+-- the evaluations of a list: its first call gets the table, each later one the table that the call before it gave back
 unfoldable pub evaluations : Table → List Call → List EntryExit
-evaluations t [] = []
-evaluations t (Advertise n rank ∷ cs) = evaluations (after t (Advertise n rank)) cs
-evaluations t (Report n attempts acked ∷ cs) = evaluations (after t (Report n attempts acked)) cs
-evaluations t (Forget n ∷ cs) = evaluations (after t (Forget n)) cs
-evaluations t (Evaluate ∷ cs) = record { entry = t; exit = after t Evaluate } ∷ evaluations (after t Evaluate) cs
+evaluations table [] = []
+evaluations table (Advertise id rank ∷ calls) = evaluations (after table (Advertise id rank)) calls
+evaluations table (Report id attempts acked ∷ calls) = evaluations (after table (Report id attempts acked)) calls
+evaluations table (Forget id ∷ calls) = evaluations (after table (Forget id)) calls
+evaluations table (Evaluate ∷ calls) = record { entry = table; exit = after table Evaluate } ∷ evaluations (after table Evaluate) calls
 
 -- how many evaluations changed the parent
 unfoldable pub changes : List EntryExit → ℕ
 changes [] = 0
-changes (v ∷ vs) = cond (sameParent (v .entry .parent) (v .exit .parent)) 0 1 + changes vs
+changes (visit ∷ visits) = cond (sameParent (visit .entry .parent) (visit .exit .parent)) 0 1 + changes visits
 
 -- all rises of the held parent's cost between one evaluation and the next
 unfoldable pub rises : List EntryExit → ℕ
 rises [] = 0
-rises (v ∷ []) = 0
-rises (v ∷ w ∷ vs) = (heldCost (w .entry) - heldCost (v .exit)) + rises (w ∷ vs)
+rises (visit ∷ []) = 0
+rises (visit ∷ next ∷ visits) = (heldCost (next .entry) - heldCost (visit .exit)) + rises (next ∷ visits)
 
 -- the cost on entry to the first evaluation
 unfoldable pub firstCost : List EntryExit → ℕ
 firstCost [] = 0
-firstCost (v ∷ vs) = heldCost (v .entry)
+firstCost (visit ∷ visits) = heldCost (visit .entry)
 
 -- the cost on exit from the last
 unfoldable pub lastCost : List EntryExit → ℕ
 lastCost [] = 0
-lastCost (v ∷ []) = heldCost (v .exit)
-lastCost (v ∷ w ∷ vs) = lastCost (w ∷ vs)
+lastCost (visit ∷ []) = heldCost (visit .exit)
+lastCost (visit ∷ next ∷ visits) = lastCost (next ∷ visits)
 
 -- the parent held on entry to each evaluation is eligible there
 unfoldable pub eachEligible : List EntryExit → Bool
 eachEligible [] = true
-eachEligible (v ∷ vs) = eligible (held (v .entry)) && eachEligible vs
+eachEligible (visit ∷ visits) = eligible (held (visit .entry)) && eachEligible visits
 
 -- there is at least one evaluation
 unfoldable pub any : List EntryExit → Bool
 any [] = false
-any (v ∷ vs) = true
+any (visit ∷ visits) = true
 
 -- no evaluation is refused
 unfoldable pub noneRefused : List EntryExit → Bool
 noneRefused [] = true
-noneRefused (v ∷ vs) = eqb (evaluated (v .entry) .number) 0 && noneRefused vs
+noneRefused (visit ∷ visits) = eqb (evaluated (visit .entry) .number) 0 && noneRefused visits
 
 -- the lists that the claim is about: a table that is not refused, at least one evaluation, an eligible parent at each
 unfoldable pub applies : Table → List Call → Bool
-applies t cs = not (broken t) && (any (evaluations t cs) && eachEligible (evaluations t cs))
+applies table calls = not (broken table) && (any (evaluations table calls) && eachEligible (evaluations table calls))
 
 -- the claim
 abbrev pub ParentsDoNotFlap : Type 0
 ParentsDoNotFlap =
-    (t : Table) (cs : List Call) → applies t cs ≡ true →
-    let vs = evaluations t cs in 641 * changes vs + lastCost vs ≤ firstCost vs + rises vs
+    (table : Table) (calls : List Call) → applies table calls ≡ true →
+    let visits = evaluations table calls in 641 * changes visits + lastCost visits ≤ firstCost visits + rises visits
 
 -- without rises there are at most 101 changes
 abbrev pub AtMost101Changes : Type 0
-AtMost101Changes = (t : Table) (cs : List Call) → applies t cs ≡ true → rises (evaluations t cs) ≡ 0 → changes (evaluations t cs) ≤ 101
+AtMost101Changes = (table : Table) (calls : List Call) → applies table calls ≡ true → rises (evaluations table calls) ≡ 0 → changes (evaluations table calls) ≤ 101
 
 -- no evaluation of a list is refused, whose first table is not
 abbrev pub NoneRefused : Type 0
-NoneRefused = (t : Table) (cs : List Call) → broken t ≡ false → noneRefused (evaluations t cs) ≡ true
+NoneRefused = (table : Table) (calls : List Call) → broken table ≡ false → noneRefused (evaluations table calls) ≡ true
 
 -- the bound is met, by a list with a change and a rise
 abbrev pub BoundIsMet : Type 0
 BoundIsMet =
-    (t : Table) × (cs : List Call) × (applies t cs ≡ true)
-    × (let vs = evaluations t cs in (0 < changes vs) × (0 < rises vs) × (641 * changes vs + lastCost vs ≡ firstCost vs + rises vs))
+    (table : Table) × (calls : List Call) × (applies table calls ≡ true)
+    × (let visits = evaluations table calls in (0 < changes visits) × (0 < rises visits) × (641 * changes visits + lastCost visits ≡ firstCost visits + rises visits))
 
 -- and there is a list with 101 changes and no rise
 abbrev pub Reaches101 : Type 0
-Reaches101 = (t : Table) × (cs : List Call) × (applies t cs ≡ true) × (rises (evaluations t cs) ≡ 0) × (changes (evaluations t cs) ≡ 101)
+Reaches101 = (table : Table) × (calls : List Call) × (applies table calls ≡ true) × (rises (evaluations table calls) ≡ 0) × (changes (evaluations table calls) ≡ 101)

@@ -25,111 +25,111 @@ emptyTable = record { places = replicate 32 blank; parent = None }
 
 -- a table with other places
 abbrev pub withPlaces : Table → List Place → Table
-withPlaces t ps = record { places = ps; parent = t .parent }
+withPlaces table places = record { places = places; parent = table .parent }
 
 -- a table with another held parent
 abbrev pub withParent : Table → Parent → Table
-withParent t q = record { places = t .places; parent = q }
+withParent table parent = record { places = table .places; parent = parent }
 
 -- a held parent that is not among the places in use
 unfoldable pub parentMissing : Parent → List Place → Bool
-parentMissing None ps = false
-parentMissing (Held n) ps = not (known n ps)
+parentMissing None places = false
+parentMissing (Held id) places = not (known id places)
 
 -- a table that breaks a rule: a place does, an identifier stands twice among places in use, or a held parent is not among them
 unfoldable pub broken : Table → Bool
-broken t = some unfit (t .places) || (twice (t .places) || parentMissing (t .parent) (t .places))
+broken table = some unfit (table .places) || (twice (table .places) || parentMissing (table .parent) (table .places))
 
 -- ---- the calls, each first fault first: 8, 10, 11
 -- a call's number and its table
 abbrev pub answer : ℕ → Table → Answer
-answer number t = record { number = number; table = t }
+answer number table = record { number = number; table = table }
 
 -- sets the rank, or adds a neighbour in the lowest-numbered free place
 unfoldable pub advertised : Table → ℕ → ℕ → Answer
-advertised t n r =
-    ifOn (broken t) (answer outOfLimits t)
-    (ifOn (known n (t .places)) (answer done (withPlaces t (changeFirst (named n) (withRank r) (t .places))))
-    (ifOn (some free (t .places)) (answer done (withPlaces t (changeFirst free (λ p. newcomer n r) (t .places))))
-    (answer tableFull t)))
+advertised table id rank =
+    ifOn (broken table) (answer outOfLimits table)
+    (ifOn (known id (table .places)) (answer done (withPlaces table (changeFirst (named id) (withRank rank) (table .places))))
+    (ifOn (some free (table .places)) (answer done (withPlaces table (changeFirst free (λ place. newcomer id rank) (table .places))))
+    (answer tableFull table)))
 
 -- 1 to 4 attempts, acknowledged or not
 unfoldable pub reported : Table → ℕ → ℕ → Bool → Answer
-reported t n k ok =
-    ifOn (broken t) (answer outOfLimits t)
-    (ifLt k 1 (answer outOfLimits t)
-    (ifLt 4 k (answer outOfLimits t)
-    (ifOn (known n (t .places)) (answer done (withPlaces t (changeFirst (named n) (attempted k ok) (t .places))))
-    (answer unknownNeighbour t))))
+reported table id attempts acked =
+    ifOn (broken table) (answer outOfLimits table)
+    (ifLt attempts 1 (answer outOfLimits table)
+    (ifLt 4 attempts (answer outOfLimits table)
+    (ifOn (known id (table .places)) (answer done (withPlaces table (changeFirst (named id) (attempted attempts acked) (table .places))))
+    (answer unknownNeighbour table))))
 
--- the held parent once neighbour n is removed
+-- the held parent once a neighbour is removed
 unfoldable pub without : ℕ → Parent → Parent
-without n None = None
-without n (Held m) = ifEq m n None (Held m)
+without id None = None
+without id (Held other) = ifEq other id None (Held other)
 
 -- removes the neighbour; a held parent so removed becomes none
 unfoldable pub forgotten : Table → ℕ → Answer
-forgotten t n =
-    ifOn (broken t) (answer outOfLimits t)
-    (ifOn (known n (t .places))
-    (answer done (record { places = changeFirst (named n) (λ p. blank) (t .places); parent = without n (t .parent) }))
-    (answer unknownNeighbour t))
+forgotten table id =
+    ifOn (broken table) (answer outOfLimits table)
+    (ifOn (known id (table .places))
+    (answer done (record { places = changeFirst (named id) (λ place. blank) (table .places); parent = without id (table .parent) }))
+    (answer unknownNeighbour table))
 
 -- ---- evaluation
 -- the held parent's place, and the blank place for none
 unfoldable pub heldPlace : Parent → List Place → Place
-heldPlace None ps = blank
-heldPlace (Held n) ps = firstOf (named n) ps
+heldPlace None places = blank
+heldPlace (Held id) places = firstOf (named id) places
 
 -- the same of a table
 abbrev pub held : Table → Place
-held t = heldPlace (t .parent) (t .places)
+held table = heldPlace (table .parent) (table .places)
 
 -- the held parent's path cost
 abbrev pub heldCost : Table → ℕ
-heldCost t = pathCost (held t)
+heldCost table = pathCost (held table)
 
 -- whether a parent is held
 unfoldable pub markOf : Parent → Bool
 markOf None = false
-markOf (Held n) = true
+markOf (Held id) = true
 
 -- the held parent's identifier, 0 for none
 unfoldable pub idOf : Parent → ℕ
 idOf None = 0
-idOf (Held n) = n
+idOf (Held id) = id
 
 -- whether two held parents are the same
 unfoldable pub sameParent : Parent → Parent → Bool
 sameParent None None = true
-sameParent None (Held m) = false
-sameParent (Held n) None = false
-sameParent (Held n) (Held m) = eqb n m
+sameParent None (Held other) = false
+sameParent (Held id) None = false
+sameParent (Held id) (Held other) = eqb id other
 
 -- a choice: the parent that is held from now on, and the own rank
 abbrev pub choice : Parent → ℕ → Choice
-choice q rank = record { parent = q; rank = rank }
+choice parent rank = record { parent = parent; rank = rank }
 
 -- a place's neighbour as parent: own rank is its cost
 abbrev pub choiceOf : Place → Choice
-choiceOf p = choice (Held (p .id)) (pathCost p)
+choiceOf place = choice (Held (place .id)) (pathCost place)
 
--- the choice between the held parent q, whose place is h, and the best place b: with no eligible neighbour none; if the held
+-- the choice between the held parent, at its current place, and the candidate, the best place: with no eligible neighbour none; if the held
 -- one is none or not eligible the best; otherwise change exactly when held cost minus best cost is greater than 640
 unfoldable pub chosen : Parent → Place → Place → Choice
-chosen q h b =
-    ifOn (eligible b)
-    (ifOn (eligible h) (ifLt 640 (pathCost h - pathCost b) (choiceOf b) (choice q (pathCost h))) (choiceOf b))
+chosen parent current candidate =
+    ifOn (eligible candidate)
+    (ifOn (eligible current) (ifLt 640 (pathCost current - pathCost candidate) (choiceOf candidate) (choice parent (pathCost current))) (choiceOf candidate))
     (choice None 65535)
 
 -- an evaluation's number, table and own rank
 abbrev pub evaluation : ℕ → Table → ℕ → Evaluation
-evaluation number t rank = record { number = number; table = t; rank = rank }
+evaluation number table rank = record { number = number; table = table; rank = rank }
 
 -- sets the held parent and says the own rank
 abbrev pub settled : Table → Choice → Evaluation
-settled t c = evaluation done (withParent t (c .parent)) (c .rank)
+settled table decision = evaluation done (withParent table (decision .parent)) (decision .rank)
 
 -- the choice is set; a refusal says 65535
 unfoldable pub evaluated : Table → Evaluation
-evaluated t = ifOn (broken t) (evaluation outOfLimits t 65535) (settled t (chosen (t .parent) (held t) (best (t .places))))
+evaluated table = ifOn (broken table) (evaluation outOfLimits table 65535) (settled table (chosen (table .parent) (held table) (best (table .places))))

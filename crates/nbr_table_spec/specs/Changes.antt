@@ -6,18 +6,19 @@ use Rattle.nbr_metric_spec.specs.declared.Place.{Place}
 
 -- a place with another rank
 abbrev pub withRank : ℕ → Place → Place
-withRank r p = record { id = p .id; rank = r; attempts = p .attempts; acked = p .acked; used = p .used }
+withRank rank place = record { id = place .id; rank = rank; attempts = place .attempts; acked = place .acked; used = place .used }
 
 -- a place with other counters
 abbrev pub withCounters : ℕ → ℕ → Place → Place
-withCounters t a p = record { id = p .id; rank = p .rank; attempts = t; acked = a; used = p .used }
+withCounters attempts acked place = record { id = place .id; rank = place .rank; attempts = attempts; acked = acked; used = place .used }
 
--- a neighbour that is added: t = a = 0
+-- a neighbour that is added: no attempt yet
 abbrev pub newcomer : ℕ → ℕ → Place
-newcomer n r = record { id = n; rank = r; attempts = 0; acked = 0; used = true }
+newcomer id rank = record { id = id; rank = rank; attempts = 0; acked = 0; used = true }
 
--- a report: if t + attempts exceeds 255, t and a are first halved, rounding down; then t grows by the attempts, a by 0 or 1
+-- a report: if the attempts would exceed 255, both counters are first halved, rounding down; then the attempts grow by those reported, the
+-- acknowledged ones by 0 or 1
 unfoldable pub attempted : ℕ → Bool → Place → Place
-attempted k ok p =
-    ifLt 255 (p .attempts + k) (withCounters (p .attempts / 2 + k) (p .acked / 2 + cond ok 1 0) p)
-    (withCounters (p .attempts + k) (p .acked + cond ok 1 0) p)
+attempted attempts acked place =
+    ifLt 255 (place .attempts + attempts) (withCounters (place .attempts / 2 + attempts) (place .acked / 2 + cond acked 1 0) place)
+    (withCounters (place .attempts + attempts) (place .acked + cond acked 1 0) place)

@@ -11,59 +11,59 @@ use Rattle.nbr_metric_spec.specs.Metric.{blank, eligible, pathCost}
 -- ---- which places are meant
 -- a place is free
 unfoldable pub free : Place → Bool
-free p = not (p .used)
+free place = not (place .used)
 
--- a place is in use, by neighbour n
+-- a place is in use, by this neighbour
 unfoldable pub named : ℕ → Place → Bool
-named n p = p .used && eqb (p .id) n
+named id place = place .used && eqb (place .id) id
 
--- some place passes the test f
+-- some place passes the test
 unfoldable pub some : (Place → Bool) → List Place → Bool
-some f [] = false
-some f (p ∷ ps) = f p || some f ps
+some test [] = false
+some test (place ∷ places) = test place || some test places
 
--- the lowest-numbered place that passes the test f, and the blank place if none does
+-- the lowest-numbered place that passes the test, and the blank place if none does
 unfoldable pub firstOf : (Place → Bool) → List Place → Place
-firstOf f [] = blank
-firstOf f (p ∷ ps) = cond (f p) p (firstOf f ps)
+firstOf test [] = blank
+firstOf test (place ∷ places) = cond (test place) place (firstOf test places)
 
--- the lowest-numbered place that passes the test f becomes what g makes of it
+-- the lowest-numbered place that passes the test is changed
 unfoldable pub changeFirst : (Place → Bool) → (Place → Place) → List Place → List Place
-changeFirst f g [] = []
-changeFirst f g (p ∷ ps) = cond (f p) (g p ∷ ps) (p ∷ changeFirst f g ps)
+changeFirst test change [] = []
+changeFirst test change (place ∷ places) = cond (test place) (change place ∷ places) (place ∷ changeFirst test change places)
 
--- neighbour n is in the table
+-- the neighbour is in the table
 abbrev pub known : ℕ → List Place → Bool
-known n ps = some (named n) ps
+known id places = some (named id) places
 
 -- ---- which places break a rule
 -- a place is not all zero
 unfoldable pub nonzero : Place → Bool
-nonzero p = ltb 0 (p .id) || (ltb 0 (p .rank) || (ltb 0 (p .attempts) || ltb 0 (p .acked)))
+nonzero place = ltb 0 (place .id) || (ltb 0 (place .rank) || (ltb 0 (place .attempts) || ltb 0 (place .acked)))
 
--- t over 255, a over t, or free and not all zero
+-- attempts over 255, more acknowledged than attempts, or free and not all zero
 unfoldable pub unfit : Place → Bool
-unfit p = ltb 255 (p .attempts) || (ltb (p .attempts) (p .acked) || (free p && nonzero p))
+unfit place = ltb 255 (place .attempts) || (ltb (place .attempts) (place .acked) || (free place && nonzero place))
 
 -- an identifier stands twice among places in use
 unfoldable pub twice : List Place → Bool
 twice [] = false
-twice (p ∷ ps) = (p .used && known (p .id) ps) || twice ps
+twice (place ∷ places) = (place .used && known (place .id) places) || twice places
 
 -- ---- the best place
 -- the better of two that are eligible: least cost, then lower identifier
 unfoldable pub nearer : Place → Place → Place
-nearer b p = ifLt (pathCost p) (pathCost b) p (ifLt (pathCost b) (pathCost p) b (ifLt (p .id) (b .id) p b))
+nearer kept place = ifLt (pathCost place) (pathCost kept) place (ifLt (pathCost kept) (pathCost place) kept (ifLt (place .id) (kept .id) place kept))
 
--- the better of two: the eligible one, and b if neither is
+-- the better of two: the eligible one, and the one kept so far if neither is
 unfoldable pub better : Place → Place → Place
-better b p = ifOn (eligible p) (ifOn (eligible b) (nearer b p) p) b
+better kept place = ifOn (eligible place) (ifOn (eligible kept) (nearer kept place) place) kept
 
--- the best of the places and b
+-- the best of the places and the one kept so far
 unfoldable pub bestOf : Place → List Place → Place
-bestOf b [] = b
-bestOf b (p ∷ ps) = bestOf (better b p) ps
+bestOf kept [] = kept
+bestOf kept (place ∷ places) = bestOf (better kept place) places
 
 -- the best place, and the blank place if none is eligible
 abbrev pub best : List Place → Place
-best ps = bestOf blank ps
+best places = bestOf blank places

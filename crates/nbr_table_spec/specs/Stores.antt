@@ -18,10 +18,10 @@ use Rattle.nbr_table_spec.specs.Places.{free, named, unfit}
 use Rattle.nbr_table_spec.specs.Changes.{attempted, newcomer, withRank}
 use Rattle.nbr_table_spec.specs.Calls.{answer, broken}
 
--- the number of the first place that passes the test f, and how many places there are if none does
+-- the number of the first place that passes the test, and how many places there are if none does
 unfoldable pub first : (Place → Bool) → List Place → ℕ
-first f [] = zero
-first f (place ∷ places) = cond (f place) zero (suc (first f places))
+first test [] = zero
+first test (place ∷ places) = cond (test place) zero (suc (first test places))
 
 -- the number of a neighbour's place, 32 where it has none
 abbrev pub indexOf : ℕ → List Place → ℕ

@@ -5,14 +5,14 @@ use Prim.Native.Nat.{ℕ}
 use mathlib.Core.Bool.{Bool, cond}
 use lib.Dec.{ltb, eqb}
 
--- x if the test holds, else y
+-- the answer if the test holds, otherwise the other one
 unfoldable pub ifOn : {A : Type 0} → Bool → A → A → A
-ifOn test x y = cond test x y
+ifOn test answer otherwise = cond test answer otherwise
 
--- x if a is below b, else y
+-- the answer if one number is below the other, otherwise the other one
 unfoldable pub ifLt : {A : Type 0} → ℕ → ℕ → A → A → A
-ifLt a b x y = cond (ltb a b) x y
+ifLt one other answer otherwise = cond (ltb one other) answer otherwise
 
--- x if a equals b, else y
+-- the answer if the numbers are equal, otherwise the other one
 unfoldable pub ifEq : {A : Type 0} → ℕ → ℕ → A → A → A
-ifEq a b x y = cond (eqb a b) x y
+ifEq one other answer otherwise = cond (eqb one other) answer otherwise

@@ -3,11 +3,11 @@ use Prim.Native.Nat.{ℕ, zero, suc, _-_, min}
 use mathlib.Core.List.{List, [], _∷_, _++_}
 use lib.ListN.{replicate}
 
--- the values at 0 to n - 1
+-- this many values, from that at 0 on
 unfoldable pub counted : {A : Type 0} → (ℕ → A) → ℕ → List A
-counted f zero = []
-counted f (suc n) = counted f n ++ (f n ∷ [])
+counted element zero = []
+counted element (suc count) = counted element count ++ (element count ∷ [])
 
--- a list of some size that begins with the values at 0 to n - 1 and is blank behind them
+-- a list of some size that begins with this many values and is blank behind them
 unfoldable pub padded : {A : Type 0} → (ℕ → A) → A → ℕ → ℕ → List A
-padded f blank size n = counted f (min n size) ++ replicate (size - min n size) blank
+padded element blank size count = counted element (min count size) ++ replicate (size - min count size) blank

@@ -18,13 +18,13 @@ beAt (suc width) bytes at = 256 ^ width * getD bytes at 0 + beAt width bytes (at
 
 -- the `width` low bytes of a number, least significant first
 unfoldable pub leBytes : ℕ → ℕ → List ℕ
-leBytes zero n = []
-leBytes (suc width) n = n % 256 ∷ leBytes width (n / 256)
+leBytes zero number = []
+leBytes (suc width) number = number % 256 ∷ leBytes width (number / 256)
 
 -- the `width` low bytes of a number, most significant first
 unfoldable pub beBytes : ℕ → ℕ → List ℕ
-beBytes zero n = []
-beBytes (suc width) n = n / 256 ^ width % 256 ∷ beBytes width n
+beBytes zero number = []
+beBytes (suc width) number = number / 256 ^ width % 256 ∷ beBytes width number
 
 -- a buffer with bytes stored one by one from `at` on; past its end nothing is stored
 unfoldable pub stored : List ℕ → ℕ → List ℕ → List ℕ
@@ -32,7 +32,7 @@ stored buffer at bytes = sets buffer at bytes
 
 -- the claim that what was put reads back: read at its offset, it is the number's low bytes, and so the number itself where it fits
 abbrev pub ReadsBack : (ℕ → ℕ → List ℕ) → (ℕ → List ℕ → ℕ → ℕ) → Type 0
-ReadsBack bytesOf numberAt = (width n at : ℕ) (buffer : List ℕ) → at + width ≤ length buffer → numberAt width (stored buffer at (bytesOf width n)) at ≡ n % 256 ^ width
+ReadsBack bytesOf numberAt = (width number at : ℕ) (buffer : List ℕ) → at + width ≤ length buffer → numberAt width (stored buffer at (bytesOf width number)) at ≡ number % 256 ^ width
 
 -- such a buffer: of four bytes, with a number of two bytes from its second byte on
 abbrev pub ReadsBackInABuffer : (ℕ → ℕ → List ℕ) → (ℕ → List ℕ → ℕ → ℕ) → Type 0

@@ -12,12 +12,12 @@ use Rattle.io.specs.Digits.{digits}
 
 -- how many decimal digits a number has; the bound only has to be large enough
 unfoldable pub widthGo : ℕ → ℕ → ℕ
-widthGo zero n = 0
-widthGo (suc bound) n = ifLt n 10 1 (widthGo bound (n / 10) + 1)
+widthGo zero number = 0
+widthGo (suc bound) number = ifLt number 10 1 (widthGo bound (number / 10) + 1)
 
 -- a number in decimal: as many digits as it has, so that no zero leads, and `0` for 0
 unfoldable pub decimal : ℕ → List ℕ
-decimal n = digits 10 (widthGo (suc n) n) n
+decimal number = digits 10 (widthGo (suc number) number) number
 
 -- `asn `
 abbrev pub asnName : List ℕ
@@ -45,7 +45,7 @@ newline = 10 ∷ []
 
 -- a number behind its name
 unfoldable pub field : List ℕ → ℕ → List ℕ
-field name n = name ++ decimal n
+field name number = name ++ decimal number
 
 -- `asn ` and ` metric `
 unfoldable pub synchronizationText : ℕ → ℕ → List ℕ

@@ -16,11 +16,11 @@ use Rattle.nbr_table_spec.specs.declared.Table.{Table}
 use Rattle.nbr_table_spec.specs.declared.Parent.{Parent}
 use Rattle.nbr_table_spec.specs.declared.Parent.the-variants.{None, Held}
 
--- a neighbour in use, with rank, attempts t and acknowledged a
+-- a neighbour in use, with rank, attempts and acknowledged ones
 abbrev pub neighbour : ℕ → ℕ → ℕ → ℕ → Place
-neighbour id rank t a = record { id = id; rank = rank; attempts = t; acked = a; used = true }
+neighbour id rank attempts acked = record { id = id; rank = rank; attempts = attempts; acked = acked; used = true }
 
--- a table that holds neighbour 1 at a path cost, where neighbour 2 has another; t = a = 1 adds 256
+-- a table that holds neighbour 1 at a path cost, where neighbour 2 has another; one attempt, acknowledged, adds 256
 abbrev pub between : ℕ → ℕ → Table
 between heldAt otherAt = record { places = neighbour 1 (heldAt - 256) 1 1 ∷ neighbour 2 (otherAt - 256) 1 1 ∷ replicate 30 blank; parent = Held 1 }
 
@@ -40,16 +40,16 @@ worked is wants = record { is = is; wants = wants }
 
 -- a truth value as a number
 abbrev pub oneIf : Bool → ℕ
-oneIf b = cond b 1 0
+oneIf mark = cond mark 1 0
 
 -- the list
 abbrev pub workedValues : List Worked
 workedValues =
-    -- increments: t 100, a 75; t 8, a 7; t 1, a 1
+    -- increments: 75 of 100 attempts acknowledged; 7 of 8; 1 of 1
     worked (increment 100 75) 512
     ∷ worked (increment 8 7) 366
     ∷ worked (increment 1 1) 256
-    -- with rank 256: t 11, a 3 is eligible, with increment 2304; t 12, a 3 and a 0 are not
+    -- with rank 256: 3 of 11 is eligible, with increment 2304; 3 of 12 and 0 of any are not
     ∷ worked (oneIf (eligible (neighbour 1 256 11 3))) 1
     ∷ worked (increment 11 3) 2304
     ∷ worked (oneIf (eligible (neighbour 1 256 12 3))) 0
@@ -69,7 +69,7 @@ workedValues =
     ∷ worked (channelOf 11 0) 13
     ∷ worked (channelOf (2 ^ 40 - 1) 0) 21
     ∷ worked (channelOf (2 ^ 40 - 1) 1) 16
-    -- t 255, a 1, one failed attempt: halved first
+    -- 1 of 255, one failed attempt: halved first
     ∷ worked (attempted 1 false (neighbour 1 256 255 1) .attempts) 128
     ∷ worked (attempted 1 false (neighbour 1 256 255 1) .acked) 0
     ∷ []
@@ -77,7 +77,7 @@ workedValues =
 -- every value holds
 abbrev pub AllHold : List Worked → Type 0
 AllHold [] = Unit
-AllHold (r ∷ rs) = (r .is ≡ r .wants) × AllHold rs
+AllHold (row ∷ rows) = (row .is ≡ row .wants) × AllHold rows
 
 -- the claim
 abbrev pub Values : Type 0
