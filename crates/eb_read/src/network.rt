@@ -1,6 +1,6 @@
 // The network ID of a frame: where it lies, and the part of the frame that it is.
 ghost use mathlib.Core.Path.{_≡_};
-ghost use Prim.Native.Nat.{_≤_};
+ghost use Prim.Native.Nat.{_+_, _≤_};
 ghost use Rattle.eb_read_spec.specs.Decode.{networkOffset};
 ghost use Rattle.eb_read_spec.specs.Network.{spanFrom, networkSpan, networkPart, NetworkLiesInside};
 use eb_read_spec::Span;
@@ -47,9 +47,11 @@ pub fn network_span(s: &[u8]) -> Span
     span_from(at + network_offset(s, at), walk.joiningend)
 }
 
-// The network ID of a frame, as a part of its bytes; the empty part at its start if the frame is refused or has none.
+// The network ID of a frame, as a part of its bytes, at its offset in them; the empty part at their start if the frame is refused, has none,
+// or one of no bytes.
 pub fn network_id(s: &[u8]) -> &[u8]
-    ensures { λ r. ⌜ now r ≡ networkPart (now (s .entry)) ⌝ }
+    ensures bytes { λ r. ⌜ now r ≡ networkPart (now (s .entry)) ⌝ }
+    ensures place { λ r. ⌜ r .ptr ≡ (s .entry .ptr .0, networkSpan (now (s .entry)) .offset + s .entry .ptr .1) ⌝ }
 {
     let span = network_span(s);
     let from = span.offset;

@@ -22,6 +22,6 @@ module _ {A : Type 0} (P : A → Type 0) (x y : A) where
   each-eq a b one other = each-on (eqb a b) (λ t. one (eqb-true a b t)) (λ t. other (eqb-false a b t))
 
 -- and of two choices by one test
-pub each-eq-2 : {A : Type 0} (P : A → A → Type 0) (x y u v : A) (a b : ℕ) → (a ≡ b → P x u) → ((a ≡ b → ⊥) → P y v) → P (ifEq a b x y) (ifEq a b u v)
+pub each-eq-2 : {A B : Type 0} (P : A → B → Type 0) (x y : A) (u v : B) (a b : ℕ) → (a ≡ b → P x u) → ((a ≡ b → ⊥) → P y v) → P (ifEq a b x y) (ifEq a b u v)
 each-eq-2 P x y u v a b one other =
     each-eq (λ z. P z (ifEq a b u v)) x y a b (λ e. subst (P x) (if-eq u v a b e refl) (one e)) (λ n. subst (P y) (if-ne u v a b n refl) (other n))

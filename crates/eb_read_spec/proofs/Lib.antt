@@ -10,4 +10,5 @@ pub mod Bounds
 pub mod Accepted
 pub mod FormReadLaws
 pub mod NetworkLaws
+pub mod NetworkRecord
 pub mod Witnessed

@@ -1,6 +1,6 @@
 -- The laws of the network ID, in the shape in which the code meets them. Assumes nothing.
 use Prim.Native.Nat.{ℕ, _+_, _-_, _*_, _/_, _%_, _<_, _≤_}
-use mathlib.Core.Path.{_≡_, refl, sym, _∙_}
+use mathlib.Core.Path.{_≡_, refl, sym, ap, _∙_}
 use mathlib.Core.List.{List}
 use native.Mathlib.Omega.{arith}
 use lib.ListN.{length, take, drop}
@@ -72,4 +72,8 @@ module _ (s : List ℕ) (r : Span) (e : r ≡ networkSpan s) where
   unfolding networkPart
   part-is = let size : r .offset + r .length - r .offset ≡ r .length = omega arith in rw (size, e)
 
-pub ruleset networks = (choices, offset-is, span-some, span-none, network-absent, network-there, part-is)
+  -- its place, as a reference has it: a block and an offset
+  pub place-is : (ptr : ℕ × ℕ) → _≡_ {A = ℕ × ℕ} (ptr .0, r .offset + ptr .1) (ptr .0, networkSpan s .offset + ptr .1)
+  place-is ptr = ap (λ (z : Span). (ptr .0, z .offset + ptr .1)) e
+
+pub ruleset networks = (choices, offset-is, span-some, span-none, network-absent, network-there, part-is, place-is)

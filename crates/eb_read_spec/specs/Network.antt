@@ -1,12 +1,14 @@
 -- The network ID of a received frame: where it lies, and its bytes (docs/RULES.md, Elements). Assumes nothing.
 use Prim.Native.Nat.{ℕ, _+_, _-_, _≤_}
+use mathlib.Core.Path.{_≡_}
 use mathlib.Core.List.{List}
 use lib.ListN.{length, take, drop}
 use Rattle.octets_spec.specs.Choice.{ifLt, ifEq}
 use Rattle.refusal.specs.Refusal.{done}
 use Rattle.eb_read_spec.specs.declared.Span.{Span}
 use Rattle.eb_read_spec.specs.Decode.{networkOffset}
-use Rattle.eb_read_spec.specs.Read.{examined}
+use Rattle.eb_read_spec.specs.Read.{examined, readFrame}
+use Rattle.eb_read_spec.specs.Claims.{Bytes}
 
 -- no bytes
 abbrev pub noSpan : Span
@@ -31,3 +33,7 @@ networkPart s = take (networkSpan s .length) (drop (networkSpan s .offset) s)
 -- it lies inside the frame
 abbrev pub NetworkLiesInside : Type 0
 NetworkLiesInside = (s : List ℕ) → networkSpan s .offset + networkSpan s .length ≤ length s
+
+-- its bytes are the network ID of the record, up to its length
+abbrev pub NetworkIsTheRecords : Type 0
+NetworkIsTheRecords = (s : List ℕ) → Bytes s → networkPart s ≡ take (readFrame s .beacon .joining .length) (readFrame s .beacon .joining .network)

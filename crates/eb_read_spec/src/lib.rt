@@ -3,7 +3,7 @@
 // bytes (Claims, Inside, Network).
 ghost use Rattle.eb_read_spec.specs.Claims.{NumbersTo8, OneIsTheLength, AcceptedMayBeDecidedOn};
 ghost use Rattle.eb_read_spec.specs.Inside.{AcceptedLiesInside};
-ghost use Rattle.eb_read_spec.specs.Network.{NetworkLiesInside};
+ghost use Rattle.eb_read_spec.specs.Network.{NetworkIsTheRecords, NetworkLiesInside};
 ghost use Rattle.eb_read_spec.specs.Witnesses.{ShortestIsRead, SomeFrameIsAccepted, SomeFrameHasJoiningInformation, EachNumberIsGiven};
 
 // What stands before the elements.
@@ -46,6 +46,7 @@ pub fn theorems()
     ensures accepted_may_be_decided_on { λ _. ⌜ AcceptedMayBeDecidedOn ⌝ }
     ensures accepted_lies_inside { λ _. ⌜ AcceptedLiesInside ⌝ }
     ensures network_lies_inside { λ _. ⌜ NetworkLiesInside ⌝ }
+    ensures network_is_the_records { λ _. ⌜ NetworkIsTheRecords ⌝ }
     ensures shortest_is_read { λ _. ⌜ ShortestIsRead ⌝ }
     ensures some_frame_is_accepted { λ _. ⌜ SomeFrameIsAccepted ⌝ }
     ensures some_frame_has_joining_information { λ _. ⌜ SomeFrameHasJoiningInformation ⌝ }

@@ -23,6 +23,7 @@ use Rattle.ie_walk_spec.specs.declared.Walk.{Walk}
 use Rattle.eb_read_spec.specs.Decode.{sequenceOf, sourceOf, timingAt, templateAt, slotframeAt, networkOffset, joiningAt, macHeaderOf, decoded}
 use Rattle.eb_read_spec.specs.Read.{elementsOffset, examined, readFrame}
 use Rattle.eb_read_spec.specs.Claims.{Bytes}
+use Rattle.eb_read_spec.proofs.NetworkRecord.{top-bits}
 use Rattle.eb_read_spec.proofs.Each.{each-eq}
 use Rattle.eb_read_spec.proofs.Bounds.{le-below, be-below}
 use Rattle.eb_read_spec.proofs.Claimed.{one-is-the-length}
@@ -111,18 +112,14 @@ module _ (s : List ℕ) (bytes : Bytes s) where
       ⊎-elim (λ (e : to - at ≡ 25). template-short at (to - at) e)
       (λ k. ⊎-elim (λ (e : to - at ≡ 27). template-long at (to - at) e) (λ e. template-alone at (to - at) (e .0)) k) h
 
-  -- ---- joining information: P is bit 6 of its first byte
-  top-bits : (at : ℕ) → beAt 4 s at / 2 ^ 30 ≡ getD s at 0 / 64
-  unfolding beAt
-  top-bits at = omega (arith, be-below s bytes 3 (at + 1))
-
+  -- ---- joining information
   joining-most : (at to : ℕ) → ((at ≡ 0 → ⊥) → JoiningPassed s at to) → ifOn (joiningAt s at to .present) (2 + joiningSize (joiningAt s at to)) 0 ≤ bytesAt at (3 + (to - at))
   unfolding joiningAt joiningSize ifOn networkOffset
   joining-most at to h =
       each-eq (λ (j : JoiningInformation). ifOn (j .present) (2 + joiningSize j) 0 ≤ bytesAt at (3 + (to - at))) _ _ at 0 (λ none. omega arith)
       (λ some.
       let p : ℕ = beAt 4 s at / 2 ^ 30 % 2 in
-      let same : p ≡ getD s at 0 / 64 % 2 = rw (top-bits at) in
+      let same : p ≡ getD s at 0 / 64 % 2 = rw (top-bits s bytes at) in
       omega (arith, there at (3 + (to - at)) some, same, h some .least, flag-most p))
 
 -- ---- the frame

@@ -21,7 +21,7 @@ part-result-end : tie.Need-part-result-end
 part-result-end c = omega (arith, span-ends _ _ (c .before .network-span .ensures .0))
 
 returns : tie.Need-returns
-returns c = search (needs, networks)
+returns c = (search (needs, networks), search (needs, networks))
 
 pub network-id-spec : {M : Type 1} → statement M
 network-id-spec =
