@@ -9,7 +9,9 @@ use native.Mathlib.Omega.{arith}
 use lib.ListN.{length, getD}
 use Rattle.octets_spec.specs.Choice.{ifEq}
 use Rattle.octets_spec.specs.Number.{leAt}
-use Rattle.octets_spec.proofs.ChoiceLaws.{was-ge, was-eq, was-ne, was-on, either-eq}
+use lib.Dec.{eqb}
+use borrow.Author.Tests.{eqb-true, not-false}
+use Rattle.octets_spec.proofs.ChoiceLaws.{by-test, was-ge, was-eq, was-ne, was-on, was-off, either-eq}
 use Rattle.refusal.specs.Refusal.{done, shape, missingOrTwice, outOfLimits}
 use Rattle.ie_verdict_spec.specs.Verdict.{syncFault, timeslotFault, hoppingFault, slotframeShape, slotframeLimits, slotframeFault, joiningFault, timeslotsFit, slotframeFaultAt, partFault}
 use Rattle.ie_verdict_spec.specs.declared.Seen.{Seen}
@@ -84,18 +86,19 @@ slotframe-passed s at length seen =
 timeslot-passed : (s : List ℕ) (at to seen : ℕ) → timeslotFault (to - at) seen (getD s at 0) ≡ 0 → TimeslotPassed s at to
 unfolding timeslotFault
 timeslot-passed s at to seen =
-    let P : ℕ → Type 0 = λ n. n ≡ 0 → TimeslotPassed s at to in
-    each-eq P _ _ _ _ (λ long e. inl long)
-    (λ not-25. each-eq P _ _ _ _ (λ long e. inr (inl long))
-    (λ not-27 e.
-    let alone = was-eq _ _ _ _ _ e wrong-shape in
-    let once = was-eq _ _ _ _ _ (alone .1) twice in
-    inr (inr (alone .0, was-eq _ _ _ _ _ (once .1) over-limits .0))))
+    λ e.
+    let shaped = was-off _ _ _ _ e wrong-shape in
+    let once = was-eq _ _ _ _ _ (shaped .1) twice in
+    let within = was-off _ _ _ _ (once .1) over-limits .0 in
+    by-test (eqb (to - at) 1)
+    (λ alone. inr (inr (eqb-true (to - at) 1 alone, eqb-true (getD s at 0) 0 (not-false _ (rw alone at within)))))
+    (λ long. by-test (eqb (to - at) 25) (λ of-25. inl (eqb-true (to - at) 25 of-25)) (λ other. inr (inl (eqb-true (to - at) 27 (not-false _ (rw (long, other) at (shaped .0)))))))
 
 joining-passed : (s : List ℕ) (at to seen : ℕ) → joiningFault (to - at) seen (getD s at 0 / 64 % 2) ≡ 0 → JoiningPassed s at to
 unfolding joiningFault
 joining-passed s at to seen e =
-    let least = was-ge _ _ _ _ _ e wrong-shape in
+    let four = was-ge _ _ _ _ _ e wrong-shape in
+    let least = was-ge _ _ _ _ _ (four .1) wrong-shape in
     let most = was-ge _ _ _ _ _ (least .1) wrong-shape in
     record { least = least .0; most = most .0 }
 

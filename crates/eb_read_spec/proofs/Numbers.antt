@@ -58,7 +58,7 @@ once-small seen = either-eq Small _ _ tt tt _ _
 
 timeslot-small : (length seen id : ℕ) → Small (timeslotFault length seen id)
 unfolding timeslotFault
-timeslot-small length seen id = either-eq Small _ _ (once-small seen) (either-eq Small _ _ (once-small seen) (either-eq Small _ _ (either-eq Small _ _ (either-eq Small _ _ tt tt _ _) tt _ _) tt _ _) _ _) _ _
+timeslot-small length seen id = either-on Small _ _ tt (either-eq Small _ _ (either-on Small _ _ tt tt _) tt _ _) _
 
 hopping-small : (length seen : ℕ) → Small (hoppingFault length seen)
 unfolding hoppingFault
@@ -78,7 +78,7 @@ slotframe-small s from length seen = either-eq Small _ _ (either-eq Small _ _ (l
 
 joining-small : (length seen proxied : ℕ) → Small (joiningFault length seen proxied)
 unfolding joiningFault
-joining-small length seen proxied = either-lt Small _ _ tt (either-lt Small _ _ tt (once-small seen) _ _) _ _
+joining-small length seen proxied = either-lt Small _ _ tt (either-lt Small _ _ tt (either-lt Small _ _ tt (once-small seen) _ _) _ _) _ _
 
 part-small : (s : List ℕ) (kind from to : ℕ) (seen : Seen) → Small (partFault s kind from to seen)
 unfolding partFault syncFault

@@ -2,7 +2,7 @@
 use Prim.Native.Nat.{ℕ}
 use mathlib.Core.List.{List}
 use lib.ListN.{length}
-use Rattle.octets_spec.specs.Choice.{ifEq}
+use Rattle.octets_spec.specs.Choice.{ifEq, ifNe}
 use Rattle.octets_spec.specs.Number.{leAt}
 use Rattle.refusal.specs.Refusal.{done, missingOrTwice}
 use Rattle.eb_record_spec.specs.Record.{blankBeacon}
@@ -37,9 +37,9 @@ blankWalk = walkStart (record { fault = done; faulty = 0; skipped = 0; payload =
 unfoldable pub elementsWalk : List ℕ → ℕ → ℕ → Walk
 elementsWalk s at end =
     let head = headerList s at end in
-    ifEq (head .fault) done
-    (ifEq (head .payload) 0 (walkStart head) (payloadList s (head .payload) end (walkStart head)))
-    (walkStart head)
+    ifNe (head .fault) done (walkStart head)
+    (ifEq (head .payload) 0 (walkStart head)
+    (payloadList s (head .payload) end (walkStart head)))
 
 -- synchronization, timeslot, hopping and slotframe are required
 unfoldable pub missing : Walk → ℕ
@@ -52,7 +52,7 @@ missing walk =
 
 -- the first fault wins, and missing elements come last
 unfoldable pub walkNumber : Walk → ℕ
-walkNumber walk = ifEq (walk .fault) done (missing walk) (walk .fault)
+walkNumber walk = ifNe (walk .fault) done (walk .fault) (missing walk)
 
 -- the elements start behind the fixed fields
 unfoldable pub elementsOffset : List ℕ → ℕ
@@ -62,9 +62,8 @@ elementsOffset s = offsetsOf (controlOf (leAt 2 s 0)) .elements
 unfoldable pub examined : List ℕ → Examination
 examined s =
     let walk = elementsWalk s (elementsOffset s) (length s) in
-    ifEq (macHeaderFault s) done
+    ifNe (macHeaderFault s) done (record { number = macHeaderFault s; walk = blankWalk })
     (record { number = walkNumber walk; walk = walk })
-    (record { number = macHeaderFault s; walk = blankWalk })
 
 -- what the walk noted of an accepted frame, and nothing of one that is refused
 unfoldable pub acceptedWalk : List ℕ → Walk
@@ -73,6 +72,5 @@ acceptedWalk s = ifEq (examined s .number) done (examined s .walk) blankWalk
 -- reading: the number, and the record or, on a refusal, the blank one
 unfoldable pub readFrame : List ℕ → ReadAnswer
 readFrame s =
-    ifEq (examined s .number) done
+    ifNe (examined s .number) done (record { number = examined s .number; beacon = blankBeacon })
     (record { number = done; beacon = decoded s (examined s .walk) })
-    (record { number = examined s .number; beacon = blankBeacon })

@@ -141,7 +141,7 @@ module _ (s : List ℕ) (at end : ℕ) (j : JoiningInformation) (sized : length 
   unfolding partFault joiningFault onceOnly ifEq
   fine before fresh =
       let whole : at + 2 + joiningSize j - from ≡ 4 + 8 * p + j .length = omega (arith, size-is) in
-      rw (whole, ← first, parts .first) (if-ge _ _ _ _ (omega arith) (if-ge _ _ _ _ (omega (arith, w .few)) (if-eq _ _ (before .joining) 0 fresh refl)))
+      rw (whole, ← first, parts .first) (if-ge _ _ _ _ (omega arith) (if-ge _ _ _ _ (omega arith) (if-ge _ _ _ _ (omega (arith, w .few)) (if-eq _ _ (before .joining) 0 fresh refl))))
 
   reads : j ≡ joiningAt s from (at + 2 + joiningSize j)
   reads =

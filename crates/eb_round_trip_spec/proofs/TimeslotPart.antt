@@ -148,14 +148,13 @@ module _ (s : List ℕ) (at to : ℕ) (t : TimeslotTemplate) (sized : length (t 
       (λ e n k. timed-reads e _ (λ (z : templateSize t ≡ 1). omega arith) (n ∙ if-eq _ _ _ _ k refl)))
 
   pub template-part : Part s at to 28 (templateSize t) (λ seen. seen .timeslot) (t ≡ templateAt s (at + 2) (at + 2 + templateSize t - (at + 2)))
-  unfolding partFault timeslotFault onceOnly ifEq
+  unfolding partFault timeslotFault ifEq ifOn
   template-part = record {
     step = content .0;
     fine = λ before fresh.
         rw (add-sub-cancel-left (at + 2) (templateSize t))
         (by-form t
-        (λ e k. rw k (if-eq _ _ (before .timeslot) 0 fresh (if-eq _ _ (getD s (at + 2) 0) 0 (sym id-is ∙ w .bare e .0) refl)))
-        (λ e n k. rw k (if-eq _ _ (before .timeslot) 0 fresh refl))
-        (λ e n k. rw k (if-eq _ _ (before .timeslot) 0 fresh refl)));
+        (λ e k. rw (k, fresh, sym id-is ∙ w .bare e .0))
+        (λ e n k. rw (k, fresh)) (λ e n k. rw (k, fresh)));
     reads = template-reads;
   }

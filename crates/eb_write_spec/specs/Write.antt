@@ -2,7 +2,7 @@
 use Prim.Native.Nat.{ℕ}
 use mathlib.Core.List.{List, _++_}
 use lib.ListN.{length, drop}
-use Rattle.octets_spec.specs.Choice.{ifOn, ifLt, ifEq}
+use Rattle.octets_spec.specs.Choice.{ifOff, ifLt, ifEq}
 use Rattle.refusal.specs.Refusal.{done, frameTooLong, outOfLimits, bufferTooShort}
 use Rattle.eb_record_spec.specs.declared.Beacon.{Beacon}
 use Rattle.eb_write_spec.specs.Frame.{frameOf}
@@ -12,11 +12,10 @@ use Rattle.eb_write_spec.specs.declared.Written.{Written}
 -- the number for a buffer of this length: the limits first, then the frame's length, then the buffer's
 unfoldable pub writtenNumber : Beacon → ℕ → ℕ
 writtenNumber beacon buffer =
-    ifOn (fits beacon)
+    ifOff (fits beacon) outOfLimits
     (ifLt 125 (length (frameOf beacon)) frameTooLong
     (ifLt buffer (length (frameOf beacon)) bufferTooShort
     done))
-    outOfLimits
 
 -- the answer: the number and the frame's length, which is 0 on a refusal
 unfoldable pub writtenIn : Beacon → ℕ → Written

@@ -1,7 +1,7 @@
 -- The header list: what stands at an offset of it (docs/RULES.md, Header elements). Assumes nothing.
 use Prim.Native.Nat.{ℕ, _+_, _-_, _/_, _%_, _<_, _≤_}
 use mathlib.Core.List.{List}
-use Rattle.octets_spec.specs.Choice.{ifLt, ifEq}
+use Rattle.octets_spec.specs.Choice.{ifLt, ifEq, ifNe}
 use Rattle.octets_spec.specs.Number.{leAt}
 use Rattle.refusal.specs.Refusal.{cut, shape}
 use Rattle.ie_step_spec.specs.declared.HeaderStep.{HeaderStep}
@@ -23,8 +23,8 @@ headerWord at end word =
     let id : ℕ = word / 0x80 % 0x100 in
     ifLt (end - (at + 2)) size (Fault cut)
     (ifEq (word / 0x8000) 1 (Fault shape)
-    (ifEq id headerTermination1 (ifEq size 0 (Payload (at + 2)) (Fault shape))
-    (ifEq id headerTermination2 (ifEq size 0 End (Fault shape))
+    (ifEq id headerTermination1 (ifNe size 0 (Fault shape) (Payload (at + 2)))
+    (ifEq id headerTermination2 (ifNe size 0 (Fault shape) End)
     (Element id (at + 2) (at + 2 + size)))))
 
 -- at the end of the bytes the list ends; one byte left over is a cut descriptor (2)

@@ -3,7 +3,7 @@ use Prim.Native.Nat.{ℕ, _+_, _-_, _/_, _%_, _<_, _≤_}
 use mathlib.Core.Path.{_≡_}
 use mathlib.Core.List.{List}
 use lib.ListN.{getD}
-use Rattle.octets_spec.specs.Choice.{ifLt, ifEq}
+use Rattle.octets_spec.specs.Choice.{ifLt, ifEq, ifNe}
 use Rattle.octets_spec.specs.Number.{leAt}
 use Rattle.refusal.specs.Refusal.{cut, shape}
 use Rattle.ie_step_spec.specs.declared.OuterStep.{OuterStep}
@@ -47,7 +47,7 @@ outerWord s at end word =
     let group : ℕ = word / 0x800 % 0x10 in
     ifLt (end - (at + 2)) size (outer.Fault cut)
     (ifEq (word / 0x8000) 0 (outer.Fault shape)
-    (ifEq group payloadTermination (ifEq size 0 outer.End (outer.Fault shape))
+    (ifEq group payloadTermination (ifNe size 0 (outer.Fault shape) outer.End)
     (groupOf s group (at + 2) (at + 2 + size))))
 
 -- at the end of the bytes the list ends; one byte left over is a cut descriptor (2)

@@ -31,19 +31,13 @@ fn sync_fault(length: usize, seen: usize) -> u8
 fn timeslot_fault(length: usize, seen: usize, id: u64) -> u8
     ensures { λ r. ⌜ r ≡ timeslotFault length seen id ⌝ }
 {
-    if length == 25 {
-        return twice(seen);
-    }
-    if length == 27 {
-        return twice(seen);
-    }
-    if length != 1 {
+    if (length != 1) & ((length != 25) & (length != 27)) {
         return refusal::SHAPE;
     }
     if seen != 0 {
         return refusal::MISSING_OR_TWICE;
     }
-    if id != 0 {
+    if (length == 1) & (id != 0) {
         return refusal::OUT_OF_LIMITS;
     }
     refusal::DONE
@@ -69,6 +63,9 @@ fn joining_fault(length: usize, seen: usize, proxied: u64) -> u8
     ensures { λ r. ⌜ r ≡ joiningFault length seen proxied ⌝ }
 {
     let fixed = 4 + 8 * proxied as usize;
+    if length < 4 {
+        return refusal::SHAPE;
+    }
     if length < fixed {
         return refusal::SHAPE;
     }

@@ -1,54 +1,57 @@
 -- Whether a known element is as it should be, each rule in the order of its sentence (docs/RULES.md, Elements). The order within one
 -- element: its shape (6), seen twice (7), its limits (8). Assumes nothing.
 use Prim.Native.Nat.{ℕ, zero, suc, _+_, _-_, _*_, _/_, _%_}
-use mathlib.Core.Bool.{Bool, true, _&&_}
+use mathlib.Core.Bool.{Bool, true, not, _&&_}
 use mathlib.Core.List.{List}
-use lib.Dec.{ltb}
+use lib.Dec.{ltb, eqb}
 use lib.ListN.{getD}
-use Rattle.octets_spec.specs.Choice.{ifOn, ifLt, ifEq}
+use Rattle.octets_spec.specs.Choice.{ifOn, ifOff, ifLt, ifEq, ifNe}
 use Rattle.octets_spec.specs.Number.{leAt}
 use Rattle.refusal.specs.Refusal.{done, shape, missingOrTwice, outOfLimits}
 use Rattle.ie_verdict_spec.specs.declared.Seen.{Seen}
 
 -- an element of a kind that was taken before is one too many
 unfoldable pub onceOnly : ℕ → ℕ
-onceOnly seen = ifEq seen 0 done missingOrTwice
+onceOnly seen = ifNe seen 0 missingOrTwice done
 
 -- synchronization: length 6
 unfoldable pub syncFault : ℕ → ℕ → ℕ
-syncFault size seen = ifEq size 6 (onceOnly seen) shape
+syncFault size seen = ifNe size 6 shape (onceOnly seen)
 
 -- timeslot: length 1, 25 or 27; the ID alone must be 0
 unfoldable pub timeslotFault : ℕ → ℕ → ℕ → ℕ
 timeslotFault size seen id =
-    ifEq size 25 (onceOnly seen)
-    (ifEq size 27 (onceOnly seen)
-    (ifEq size 1
-    (ifEq seen 0 (ifEq id 0 done outOfLimits) missingOrTwice)
-    shape))
+    ifOn (not (eqb size 1) && (not (eqb size 25) && not (eqb size 27))) shape
+    (ifNe seen 0 missingOrTwice
+    (ifOn (eqb size 1 && not (eqb id 0)) outOfLimits
+    done))
 
 -- hopping: length 1; length 0 is 6, longer is 8
 unfoldable pub hoppingFault : ℕ → ℕ → ℕ
-hoppingFault size seen = ifEq size 0 shape (ifEq seen 0 (ifLt 1 size outOfLimits done) missingOrTwice)
+hoppingFault size seen = ifEq size 0 shape (ifNe seen 0 missingOrTwice (ifLt 1 size outOfLimits done))
 
 -- slotframe and link, what comes before 7: under 5 bytes (6), the slotframe count (8), a length other than 5 + 5 × links (6)
 unfoldable pub slotframeShape : ℕ → ℕ → ℕ → ℕ
-slotframeShape bytes count links = ifLt bytes 5 shape (ifEq count 1 (ifEq bytes (5 + 5 * links) done shape) outOfLimits)
+slotframeShape bytes count links = ifLt bytes 5 shape (ifNe count 1 outOfLimits (ifNe bytes (5 + 5 * links) shape done))
 
 -- and what comes after it: size at least 1, 1 to 16 links, each timeslot below the size
 unfoldable pub slotframeLimits : ℕ → ℕ → Bool → ℕ
-slotframeLimits size links below = ifEq size 0 outOfLimits (ifEq links 0 outOfLimits (ifLt 16 links outOfLimits (ifOn below done outOfLimits)))
+slotframeLimits size links below = ifEq size 0 outOfLimits (ifEq links 0 outOfLimits (ifLt 16 links outOfLimits (ifOff below outOfLimits done)))
 
 -- its fault: what comes before 7, then 7 for one too many, then its limits
 unfoldable pub slotframeFault : ℕ → ℕ → ℕ → ℕ → ℕ → Bool → ℕ
 slotframeFault bytes seen count size links below =
-    ifEq (slotframeShape bytes count links) done
-    (ifEq seen 0 (slotframeLimits size links below) missingOrTwice)
-    (slotframeShape bytes count links)
+    ifNe (slotframeShape bytes count links) done (slotframeShape bytes count links)
+    (ifNe seen 0 missingOrTwice
+    (slotframeLimits size links below))
 
--- joining information, behind its subtype: four bytes, eight of an address if P, 0 to 16 of a network ID
+-- joining information, behind its subtype: four bytes, with P in the first; eight of an address if P; 0 to 16 of a network ID
 unfoldable pub joiningFault : ℕ → ℕ → ℕ → ℕ
-joiningFault size seen proxied = ifLt size (4 + 8 * proxied) shape (ifLt (4 + 8 * proxied + 16) size shape (onceOnly seen))
+joiningFault size seen proxied =
+    ifLt size 4 shape
+    (ifLt size (4 + 8 * proxied) shape
+    (ifLt (4 + 8 * proxied + 16) size shape
+    (onceOnly seen)))
 
 -- the timeslots of this many links from an offset on are below a size
 unfoldable pub timeslotsFit : List ℕ → ℕ → ℕ → ℕ → Bool

@@ -3,7 +3,7 @@
 use Prim.Native.Nat.{ℕ, _+_, _/_, _%_}
 use mathlib.Core.List.{List}
 use lib.ListN.{length}
-use Rattle.octets_spec.specs.Choice.{ifLt, ifEq}
+use Rattle.octets_spec.specs.Choice.{ifLt, ifEq, ifNe}
 use Rattle.octets_spec.specs.Number.{leAt}
 use Rattle.refusal.specs.Refusal.{done, frameTooLong, cut, wrongType, secured, addressing}
 use Rattle.mac_header_spec.specs.declared.Control.{Control}
@@ -46,20 +46,14 @@ controlOf word = record {
 -- the accepted form: a beacon of version 2015 (3), no security (4), destination short, source short or extended, compression 1, elements present 1 (5)
 unfoldable pub formFault : Control → ℕ
 formFault control =
-    ifEq (control .kind) beaconType
-    (ifEq (control .version) version2015
-    (ifEq (control .security) 0
-    (ifEq (control .destination) shortMode
+    ifNe (control .kind) beaconType wrongType
+    (ifNe (control .version) version2015 wrongType
+    (ifNe (control .security) 0 secured
+    (ifNe (control .destination) shortMode addressing
     (ifLt (control .source) shortMode addressing
-    (ifEq (control .compression) 1
-    (ifEq (control .elements) 1
-    done
-    addressing)
-    addressing))
-    addressing)
-    secured)
-    wrongType)
-    wrongType
+    (ifNe (control .compression) 1 addressing
+    (ifNe (control .elements) 1 addressing
+    done))))))
 
 -- the bytes of an address
 unfoldable pub addressLength : ℕ → ℕ
@@ -80,9 +74,7 @@ macHeaderFault s =
     let offsets = offsetsOf control in
     ifLt 125 (length s) frameTooLong
     (ifLt (length s) 2 cut
-    (ifEq (formFault control) done
+    (ifNe (formFault control) done (formFault control)
     (ifLt (length s) (offsets .elements) cut
-    (ifEq (leAt 2 s (offsets .destination)) broadcast
-    done
-    addressing))
-    (formFault control)))
+    (ifNe (leAt 2 s (offsets .destination)) broadcast addressing
+    done))))

@@ -16,3 +16,11 @@ ifLt one other answer otherwise = cond (ltb one other) answer otherwise
 -- the answer if the numbers are equal, otherwise the other one
 unfoldable pub ifEq : {A : Type 0} → ℕ → ℕ → A → A → A
 ifEq one other answer otherwise = cond (eqb one other) answer otherwise
+
+-- the same for rows of checks, in which the refusal stands first: the answer unless the numbers are equal
+abbrev pub ifNe : {A : Type 0} → ℕ → ℕ → A → A → A
+ifNe one other answer otherwise = ifEq one other otherwise answer
+
+-- the answer unless the test holds
+abbrev pub ifOff : {A : Type 0} → Bool → A → A → A
+ifOff test answer otherwise = ifOn test otherwise answer

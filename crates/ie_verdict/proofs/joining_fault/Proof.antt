@@ -15,20 +15,25 @@ returns : tie.Need-returns
 unfolding joiningFault
 returns c = search (needs, verdicts) depth 9
 
-add-if2 : tie.Need-add-if2
-add-if2 c = search needs
-
 returns-2 : tie.Need-returns-2
 unfolding joiningFault
 returns-2 c = search (needs, verdicts) depth 9
 
-twice-requires : tie.Need-twice-requires
-twice-requires c κs = search needs
+add-if3 : tie.Need-add-if3
+add-if3 c = search needs
 
 returns-3 : tie.Need-returns-3
 unfolding joiningFault
 returns-3 c = search (needs, verdicts) depth 9
 
+twice-requires : tie.Need-twice-requires
+twice-requires c κs = search needs
+
+returns-4 : tie.Need-returns-4
+unfolding joiningFault
+returns-4 c = search (needs, verdicts) depth 9
+
 pub joining-fault-spec : {M : Type 1} → statement M
 joining-fault-spec =
-    tie.close (tie.spec mul-fixed add-fixed returns add-if2 returns-2 twice-requires returns-3)
+    tie.close
+    (tie.spec mul-fixed add-fixed returns returns-2 add-if3 returns-3 twice-requires returns-4)

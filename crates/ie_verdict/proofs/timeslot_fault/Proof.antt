@@ -5,37 +5,21 @@ use borrow.Author.Needs.{needs}
 use Rattle.ie_verdict.proofs.timeslot_fault.Statement.{statement}
 use Rattle.ie_verdict.proofs.timeslot_fault.Tie as tie
 
-twice-requires : tie.Need-twice-requires
-twice-requires c κs = search needs
-
 returns : tie.Need-returns
 unfolding timeslotFault
-returns c = search (needs, verdicts) depth 9
-
-twice-requires-2 : tie.Need-twice-requires-2
-twice-requires-2 c κs = search needs
+returns c = search (needs, verdicts)
 
 returns-2 : tie.Need-returns-2
 unfolding timeslotFault
-returns-2 c = search (needs, verdicts) depth 9
+returns-2 c = search (needs, verdicts)
 
 returns-3 : tie.Need-returns-3
 unfolding timeslotFault
-returns-3 c = search (needs, verdicts) depth 9
+returns-3 c = search (needs, verdicts)
 
 returns-4 : tie.Need-returns-4
 unfolding timeslotFault
-returns-4 c = search (needs, verdicts) depth 9
-
-returns-5 : tie.Need-returns-5
-unfolding timeslotFault
-returns-5 c = search (needs, verdicts) depth 9
-
-returns-6 : tie.Need-returns-6
-unfolding timeslotFault
-returns-6 c = search (needs, verdicts) depth 9
+returns-4 c = search (needs, verdicts)
 
 pub timeslot-fault-spec : {M : Type 1} → statement M
-timeslot-fault-spec =
-    tie.close
-    (tie.spec twice-requires returns twice-requires-2 returns-2 returns-3 returns-4 returns-5 returns-6)
+timeslot-fault-spec = tie.close (tie.spec returns returns-2 returns-3 returns-4)
