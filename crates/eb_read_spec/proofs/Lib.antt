@@ -11,4 +11,5 @@ pub mod Accepted
 pub mod FormReadLaws
 pub mod NetworkLaws
 pub mod NetworkRecord
+pub mod HeaderNumbers
 pub mod Witnessed

@@ -41,6 +41,13 @@ at-most-8 n h = leb→le n 8 (both-left (leb n 8) (not (eqb n 1)) h)
 pub not-1 : (n : ℕ) → Small n → n ≡ 1 → ⊥
 not-1 n h e = T-not (eqb n 1) (both-right (leb n 8) (not (eqb n 1)) h) (subst (λ (k : ℕ). T (eqb k 1)) (sym e) tt)
 
+-- a number that faults of elements and missing elements have: none of 1, 3, 4 and 5
+abbrev pub Late : ℕ → Type 0
+Late n = T (not (eqb n 3) && (not (eqb n 4) && (not (eqb n 5) && (leb n 8 && not (eqb n 1)))))
+
+pub late-small : (n : ℕ) → Late n → Small n
+late-small n h = both-right (not (eqb n 5)) _ (both-right (not (eqb n 4)) _ (both-right (not (eqb n 3)) _ h))
+
 -- ---- the checks before the elements
 form-small : (c : Control) → Small (formFault c)
 unfolding formFault
@@ -52,45 +59,45 @@ unfolding macHeaderFault
 mac-header-small s short = subst Small (if-ge _ _ 125 (length s) short refl) (either-lt Small _ _ tt (either-eq Small _ _ (either-lt Small _ _ tt (either-eq Small _ _ tt tt _ _) _ _) (form-small _) _ _) _ _)
 
 -- ---- the elements
-once-small : (seen : ℕ) → Small (onceOnly seen)
+once-small : (seen : ℕ) → Late (onceOnly seen)
 unfolding onceOnly
-once-small seen = either-eq Small _ _ tt tt _ _
+once-small seen = either-eq Late _ _ tt tt _ _
 
-timeslot-small : (length seen id : ℕ) → Small (timeslotFault length seen id)
+timeslot-small : (length seen id : ℕ) → Late (timeslotFault length seen id)
 unfolding timeslotFault
-timeslot-small length seen id = either-on Small _ _ tt (either-eq Small _ _ (either-on Small _ _ tt tt _) tt _ _) _
+timeslot-small length seen id = either-on Late _ _ tt (either-eq Late _ _ (either-on Late _ _ tt tt _) tt _ _) _
 
-hopping-small : (length seen : ℕ) → Small (hoppingFault length seen)
+hopping-small : (length seen : ℕ) → Late (hoppingFault length seen)
 unfolding hoppingFault
-hopping-small length seen = either-eq Small _ _ tt (either-eq Small _ _ (either-lt Small _ _ tt tt _ _) tt _ _) _ _
+hopping-small length seen = either-eq Late _ _ tt (either-eq Late _ _ (either-lt Late _ _ tt tt _ _) tt _ _) _ _
 
-shape-small : (length count links : ℕ) → Small (slotframeShape length count links)
+shape-small : (length count links : ℕ) → Late (slotframeShape length count links)
 unfolding slotframeShape
-shape-small length count links = either-lt Small _ _ tt (either-eq Small _ _ (either-eq Small _ _ tt tt _ _) tt _ _) _ _
+shape-small length count links = either-lt Late _ _ tt (either-eq Late _ _ (either-eq Late _ _ tt tt _ _) tt _ _) _ _
 
-limits-small : (size links : ℕ) (below : Bool) → Small (slotframeLimits size links below)
+limits-small : (size links : ℕ) (below : Bool) → Late (slotframeLimits size links below)
 unfolding slotframeLimits
-limits-small size links below = either-eq Small _ _ tt (either-eq Small _ _ tt (either-lt Small _ _ tt (either-on Small _ _ tt tt _) _ _) _ _) _ _
+limits-small size links below = either-eq Late _ _ tt (either-eq Late _ _ tt (either-lt Late _ _ tt (either-on Late _ _ tt tt _) _ _) _ _) _ _
 
-slotframe-small : (s : List ℕ) (from length seen : ℕ) → Small (slotframeFaultAt s from length seen)
+slotframe-small : (s : List ℕ) (from length seen : ℕ) → Late (slotframeFaultAt s from length seen)
 unfolding slotframeFaultAt slotframeFault
-slotframe-small s from length seen = either-eq Small _ _ (either-eq Small _ _ (limits-small _ _ _) tt _ _) (shape-small _ _ _) _ _
+slotframe-small s from length seen = either-eq Late _ _ (either-eq Late _ _ (limits-small _ _ _) tt _ _) (shape-small _ _ _) _ _
 
-joining-small : (length seen proxied : ℕ) → Small (joiningFault length seen proxied)
+joining-small : (length seen proxied : ℕ) → Late (joiningFault length seen proxied)
 unfolding joiningFault
-joining-small length seen proxied = either-lt Small _ _ tt (either-lt Small _ _ tt (either-lt Small _ _ tt (once-small seen) _ _) _ _) _ _
+joining-small length seen proxied = either-lt Late _ _ tt (either-lt Late _ _ tt (either-lt Late _ _ tt (once-small seen) _ _) _ _) _ _
 
-part-small : (s : List ℕ) (kind from to : ℕ) (seen : Seen) → Small (partFault s kind from to seen)
+part-small : (s : List ℕ) (kind from to : ℕ) (seen : Seen) → Late (partFault s kind from to seen)
 unfolding partFault syncFault
 part-small s kind from to seen =
-    either-eq Small _ _ (either-eq Small _ _ (once-small _) tt _ _) (either-eq Small _ _ (timeslot-small _ _ _) (either-eq Small _ _ (hopping-small _ _) (either-eq Small _ _ (slotframe-small _ _ _ _) (either-eq Small _ _ (joining-small _ _ _) tt _ _) _ _) _ _) _ _) _ _
+    either-eq Late _ _ (either-eq Late _ _ (once-small _) tt _ _) (either-eq Late _ _ (timeslot-small _ _ _) (either-eq Late _ _ (hopping-small _ _) (either-eq Late _ _ (slotframe-small _ _ _ _) (either-eq Late _ _ (joining-small _ _ _) tt _ _) _ _) _ _) _ _) _ _
 
 -- ---- the steps
 abbrev HeaderSmall : HeaderStep → Type 0
 HeaderSmall header.End = Unit
 HeaderSmall (header.Payload from) = Unit
 HeaderSmall (header.Element id from to) = Unit
-HeaderSmall (header.Fault number) = Small number
+HeaderSmall (header.Fault number) = Late number
 
 header-small : (s : List ℕ) (at end : ℕ) → HeaderSmall (headerAt s at end)
 unfolding headerAt headerWord
@@ -103,7 +110,7 @@ OuterSmall outer.End = Unit
 OuterSmall (outer.Group from to) = Unit
 OuterSmall (outer.Joining from to) = Unit
 OuterSmall (outer.Skip to) = Unit
-OuterSmall (outer.Fault number) = Small number
+OuterSmall (outer.Fault number) = Late number
 
 outer-small : (s : List ℕ) (at end : ℕ) → OuterSmall (outerAt s at end)
 unfolding outerAt outerWord groupOf
@@ -115,7 +122,7 @@ outer-small s at end =
 abbrev InnerSmall : InnerStep → Type 0
 InnerSmall inner.Back = Unit
 InnerSmall (inner.Part kind from to) = Unit
-InnerSmall (inner.Fault number) = Small number
+InnerSmall (inner.Fault number) = Late number
 
 inner-small : (s : List ℕ) (at end : ℕ) → InnerSmall (innerAt s at end)
 unfolding innerAt innerWord
@@ -124,20 +131,20 @@ inner-small s at end =
     either-lt P _ _ (either-lt P _ _ tt (either-eq P _ _ (either-lt P _ _ tt tt _ _) (either-lt P _ _ tt tt _ _) _ _) _ _) tt _ _
 
 -- ---- the lists: one step, given the rest of the list
-header-step : (bound : ℕ) (s : List ℕ) (at end n : ℕ) → ((to m : ℕ) → Small (headerGo bound s to end m .fault)) → (o : HeaderStep) → headerAt s at end ≡ o → HeaderSmall o → Small (headerGo (suc bound) s at end n .fault)
+header-step : (bound : ℕ) (s : List ℕ) (at end n : ℕ) → ((to m : ℕ) → Late (headerGo bound s to end m .fault)) → (o : HeaderStep) → headerAt s at end ≡ o → HeaderSmall o → Late (headerGo (suc bound) s at end n .fault)
 unfolding headerGo
 header-step bound s at end n rest header.End e f = rw (e, headerGo) tt
 header-step bound s at end n rest (header.Payload from) e f = rw (e, headerGo) tt
 header-step bound s at end n rest (header.Element id from to) e f = rw (e, headerGo) (rest to _)
 header-step bound s at end n rest (header.Fault number) e f = rw (e, headerGo) f
 
-header-go : (bound : ℕ) (s : List ℕ) (at end n : ℕ) → Small (headerGo bound s at end n .fault)
+header-go : (bound : ℕ) (s : List ℕ) (at end n : ℕ) → Late (headerGo bound s at end n .fault)
 unfolding headerGo
 header-go zero s at end n = tt
 header-go (suc bound) s at end n = header-step bound s at end n (λ to m. header-go bound s to end m) (headerAt s at end) refl (header-small s at end)
 
 abbrev WalkSmall : Walk → Type 0
-WalkSmall w = Small (w .fault)
+WalkSmall w = Late (w .fault)
 
 taken-part : (s : List ℕ) (w : Walk) (kind from to at : ℕ) → WalkSmall w → WalkSmall (partTaken s w kind from to at)
 unfolding partTaken taken stopped
@@ -177,17 +184,17 @@ both (suc bound) =
 pub elements-small : (s : List ℕ) (at end : ℕ) → WalkSmall (elementsWalk s at end)
 unfolding elementsWalk walkStart headerList payloadList
 elements-small s at end =
-    let h : Small (headerGo (suc end) s at end 0 .fault) = header-go (suc end) s at end 0 in
+    let h : Late (headerGo (suc end) s at end 0 .fault) = header-go (suc end) s at end 0 in
     either-eq WalkSmall _ _ (either-eq WalkSmall _ _ h (both _ .0 s _ end _ h) _ _) h _ _
 
-missing-small : (w : Walk) → Small (missing w)
+missing-small : (w : Walk) → Late (missing w)
 unfolding missing
-missing-small w = either-eq Small _ _ tt (either-eq Small _ _ tt (either-eq Small _ _ tt (either-eq Small _ _ tt tt _ _) _ _) _ _) _ _
+missing-small w = either-eq Late _ _ tt (either-eq Late _ _ tt (either-eq Late _ _ tt (either-eq Late _ _ tt tt _ _) _ _) _ _) _ _
 
-number-small : (w : Walk) → WalkSmall w → Small (walkNumber w)
+pub number-small : (w : Walk) → WalkSmall w → Late (walkNumber w)
 unfolding walkNumber
-number-small w h = either-eq Small _ _ (missing-small w) h _ _
+number-small w h = either-eq Late _ _ (missing-small w) h _ _
 
 pub examined-small : (s : List ℕ) → length s ≤ 125 → Small (examined s .number)
 unfolding examined
-examined-small s short = either-eq (λ (x : Examination). Small (x .number)) _ _ (number-small _ (elements-small s (elementsOffset s) (length s))) (mac-header-small s short) _ _
+examined-small s short = either-eq (λ (x : Examination). Small (x .number)) _ _ (late-small (walkNumber (elementsWalk s (elementsOffset s) (length s))) (number-small _ (elements-small s (elementsOffset s) (length s)))) (mac-header-small s short) _ _

@@ -19,7 +19,7 @@ use Rattle.ie_walk_spec.specs.declared.HeaderListEnd.{HeaderListEnd}
 use Rattle.eb_read_spec.specs.Decode.{decoded}
 use Rattle.eb_read_spec.specs.Read.{walkStart, blankWalk, elementsWalk, missing, walkNumber, elementsOffset, examined, acceptedWalk, readFrame}
 use Rattle.eb_read_spec.specs.declared.Examination.{Examination}
-use Rattle.eb_read_spec.proofs.Numbers.{at-most-8, elements-small}
+use Rattle.eb_read_spec.proofs.Numbers.{at-most-8, elements-small, late-small}
 
 pub heads : (head : HeaderListEnd) → record { fault = head .fault; faulty = head .faulty; skipped = head .skipped; synchronization = 0; timeslot = 0; timeslotend = 0; hopping = 0; slotframe = 0; joining = 0; joiningend = 0 } ≡ walkStart head
 unfolding walkStart
@@ -53,7 +53,7 @@ module _ (s : List ℕ) (word : ℕ) (control : Control) (offsets : FieldOffsets
   header-list-at end head h = rw offsets-at at h
 
 pub walk-small : (s : List ℕ) (at end : ℕ) (w : Walk) → w ≡ elementsWalk s at end → w .fault ≤ 8
-walk-small s at end w e = rw e (at-most-8 _ (elements-small s at end))
+walk-small s at end w e = rw e (at-most-8 _ (late-small (elementsWalk s at end .fault) (elements-small s at end)))
 
 -- ---- the number and the record
 -- four tests in a row with one answer are one test

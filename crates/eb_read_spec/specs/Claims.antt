@@ -2,8 +2,11 @@
 use Prim.Native.Nat.{ℕ, _<_, _≤_, _^_}
 use mathlib.Core.Path.{_≡_}
 use mathlib.Core.List.{List}
+use mathlib.Core.Logic.{_⊎_}
 use lib.ListN.{length, getD}
-use Rattle.refusal.specs.Refusal.{done, frameTooLong}
+use Rattle.octets_spec.specs.Number.{leAt}
+use Rattle.refusal.specs.Refusal.{addressing, done, frameTooLong, secured, wrongType}
+use Rattle.mac_header_spec.specs.Control.{beaconType, broadcast, controlOf, offsetsOf, shortMode, version2015}
 use Rattle.eb_record_spec.specs.Record.{blankLink}
 use Rattle.eb_read_spec.specs.Read.{readFrame}
 
@@ -14,6 +17,44 @@ NumbersTo8 = (s : List ℕ) → readFrame s .number ≤ 8
 -- it is 1 exactly when the frame is longer than 125 bytes
 abbrev pub OneIsTheLength : Type 0
 OneIsTheLength = (s : List ℕ) → (readFrame s .number ≡ frameTooLong → 125 < length s) × (125 < length s → readFrame s .number ≡ frameTooLong)
+
+-- frame control can be read: the frame is not too long, and has two bytes
+abbrev pub HasControl : List ℕ → Type 0
+HasControl s = (length s ≤ 125) × (2 ≤ length s)
+
+-- it says that this is a beacon of the version of 2015
+abbrev pub IsBeacon : List ℕ → Type 0
+IsBeacon s = (controlOf (leAt 2 s 0) .kind ≡ beaconType) × (controlOf (leAt 2 s 0) .version ≡ version2015)
+
+-- it has the accepted addressing: destination short, source there, compression 1, elements present 1
+abbrev pub IsAddressed : List ℕ → Type 0
+IsAddressed s =
+    let control = controlOf (leAt 2 s 0) in
+    (control .destination ≡ shortMode) × (shortMode ≤ control .source) × (control .compression ≡ 1) × (control .elements ≡ 1)
+
+-- the destination is there, and is not broadcast
+abbrev pub AnotherDestination : List ℕ → Type 0
+AnotherDestination s =
+    let offsets = offsetsOf (controlOf (leAt 2 s 0)) in
+    (offsets .elements ≤ length s) × (leAt 2 s (offsets .destination) ≡ broadcast → ⊥)
+
+-- the number is 3 exactly when frame control can be read, and says that this is no beacon of the version of 2015
+abbrev pub ThreeIsTheType : Type 0
+ThreeIsTheType = (s : List ℕ) → (readFrame s .number ≡ wrongType → HasControl s × (IsBeacon s → ⊥)) × (HasControl s × (IsBeacon s → ⊥) → readFrame s .number ≡ wrongType)
+
+-- 4 exactly when it is such a beacon, and secured
+abbrev pub FourIsSecurity : Type 0
+FourIsSecurity =
+    (s : List ℕ) →
+    let condition : Type 0 = HasControl s × IsBeacon s × (controlOf (leAt 2 s 0) .security ≡ 0 → ⊥) in
+    (readFrame s .number ≡ secured → condition) × (condition → readFrame s .number ≡ secured)
+
+-- 5 exactly when it is such a beacon, not secured, and has another addressing or another destination
+abbrev pub FiveIsTheAddressing : Type 0
+FiveIsTheAddressing =
+    (s : List ℕ) →
+    let condition : Type 0 = HasControl s × IsBeacon s × (controlOf (leAt 2 s 0) .security ≡ 0) × ((IsAddressed s → ⊥) ⊎ (IsAddressed s × AnotherDestination s)) in
+    (readFrame s .number ≡ addressing → condition) × (condition → readFrame s .number ≡ addressing)
 
 -- every entry of a list is a byte
 abbrev pub Bytes : List ℕ → Type 0
