@@ -22,10 +22,10 @@ use Rattle.eb_read_spec.specs.declared.ReadAnswer.{ReadAnswer}
 use Rattle.eb_read_spec.specs.Witnesses.{shortest}
 use Rattle.eb_read_spec.proofs.Witnessed.{shortest-is-read, shortest-done, shortest-bytes}
 use Rattle.eb_round_trip_spec.specs.ReadBack.{Sized, FormsReadBack}
-use Rattle.eb_round_trip_spec.specs.Accepted.{ReadFormsAreWritten, ShortestFormIsWritten}
+use Rattle.eb_round_trip_spec.specs.Accepted.{AcceptedReadsBack, ReadFormsAreWritten, ShortestFormIsWritten}
 use Rattle.eb_round_trip_spec.proofs.ReadsBack.{frames-read-back}
 use Rattle.eb_round_trip_spec.proofs.Fits.{accepted-fits}
-use Rattle.eb_round_trip_spec.proofs.NotLonger.{written-is-not-longer, written-is-short}
+use Rattle.eb_round_trip_spec.proofs.NotLonger.{read-sized, written-is-not-longer, written-is-short}
 use Rattle.eb_round_trip_spec.proofs.Witness.{shortest-is-written-back}
 
 module _ (beacon : Beacon) (within : fits beacon ≡ true) where
@@ -75,6 +75,11 @@ forms-read-back form buffer sized done =
     let parts = beacon-part form (can .0) in
     let back = frames-read-back (beaconOf form) (record { sized = sized; within = parts .1; short = can .1 }) in
     (ap (λ (answer : ReadAnswer). answer .number) back, ap (λ (answer : ReadAnswer). formOf (answer .beacon)) back ∙ records-give-the-form form (parts .0))
+
+pub accepted-reads-back : AcceptedReadsBack
+accepted-reads-back s bytes done =
+    frames-read-back (readFrame s .beacon) (record { sized = read-sized s bytes done; within = accepted-fits s bytes done; short = written-is-short s bytes done })
+    ∙ (λ i. record { number = sym done i; beacon = readFrame s .beacon })
 
 pub read-forms-are-written : ReadFormsAreWritten
 read-forms-are-written s bytes done =

@@ -32,6 +32,7 @@ use Rattle.eb_read_spec.proofs.Accepted.{Required, accepted-required, accepted-
 use Rattle.eb_write_spec.specs.Frame.{sequenceBytes, sourceBytes, lastWidth, templateSize, groupSize, flag, joiningSize, frameOf, frameLength}
 use Rattle.eb_write_spec.specs.Limits.{fits}
 use Rattle.eb_write_spec.proofs.LengthLaws.{length-le, length-frame}
+use Rattle.eb_round_trip_spec.specs.ReadBack.{Sized}
 use Rattle.eb_round_trip_spec.specs.Accepted.{WrittenIsNotLonger, WrittenIsShort}
 use Rattle.eb_round_trip_spec.proofs.ListLaws.{length-padded}
 use Rattle.eb_round_trip_spec.proofs.Counts.{bytesAt, inGroups, inJoining, Counts, examined-count}
@@ -148,6 +149,13 @@ module _ (s : List ℕ) (bytes : Bytes s) (w : Walk) (noted : Noted s (length s)
 
   frame-most : fits (decoded s w) ≡ true → Counts s (elementsOffset s + 2) w (length s) → length (frameOf (decoded s w)) ≤ length s
   frame-most within counts = rw (length-frame (decoded s w) timings-size links-size network-size within) (formula-most counts)
+
+pub read-sized : (s : List ℕ) → Bytes s → readFrame s .number ≡ 0 → Sized (readFrame s .beacon)
+read-sized s bytes e =
+    let w = examined s .walk in
+    let noted = examined-noted s in
+    let required = accepted-required s e in
+    rw (← accepted-decoded s e) (record { timings = timings-size s bytes w noted required; links = links-size s bytes w noted required; network = network-size s bytes w noted required })
 
 pub written-is-not-longer : WrittenIsNotLonger
 written-is-not-longer s bytes e =

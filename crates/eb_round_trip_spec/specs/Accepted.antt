@@ -27,6 +27,10 @@ WrittenIsNotLonger = (s : List ℕ) → Bytes s → readFrame s .number ≡ done
 abbrev pub WrittenIsShort : Type 0
 WrittenIsShort = (s : List ℕ) → Bytes s → readFrame s .number ≡ done → length (frameOf (readFrame s .beacon)) ≤ 125
 
+-- an accepted frame, written anew and read, gives its record
+abbrev pub AcceptedReadsBack : Type 0
+AcceptedReadsBack = (s : List ℕ) → Bytes s → readFrame s .number ≡ done → readFrame (frameOf (readFrame s .beacon)) ≡ readFrame s
+
 -- the frame of 38 bytes meets what these theorems ask for: it is bytes and is accepted; and it is written back as it was received
 abbrev pub ShortestIsWrittenBack : Type 0
 ShortestIsWrittenBack = Bytes shortest × (readFrame shortest .number ≡ done) × (frameOf (readFrame shortest .beacon) ≡ shortest)

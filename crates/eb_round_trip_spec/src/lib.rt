@@ -1,6 +1,6 @@
 // Theorems about writing and reading: what is written reads back (specs/ReadBack.antt), what reading accepts can be written
 // (specs/Accepted.antt), and what comes back of a record that is written and read (specs/RoundTrip.antt).
-ghost use Rattle.eb_round_trip_spec.specs.Accepted.{AcceptedFits, WrittenIsNotLonger, WrittenIsShort, ShortestIsWrittenBack, ReadFormsAreWritten, ShortestFormIsWritten};
+ghost use Rattle.eb_round_trip_spec.specs.Accepted.{AcceptedFits, AcceptedReadsBack, ReadFormsAreWritten, ShortestFormIsWritten, ShortestIsWrittenBack, WrittenIsNotLonger, WrittenIsShort};
 ghost use Rattle.eb_round_trip_spec.specs.ReadBack.{FramesReadBack, FormsReadBack, FramesDiffer, LengthIsTheFormula, LengthsFrom38To177, LengthsAreMet, FullRecordIsWritable};
 
 // Cites each theorem, so that the gate fails if the proof of one goes.
@@ -15,6 +15,7 @@ pub fn theorems()
     ensures accepted_fits { λ _. ⌜ AcceptedFits ⌝ }
     ensures written_is_not_longer { λ _. ⌜ WrittenIsNotLonger ⌝ }
     ensures written_is_short { λ _. ⌜ WrittenIsShort ⌝ }
+    ensures accepted_reads_back { λ _. ⌜ AcceptedReadsBack ⌝ }
     ensures shortest_is_written_back { λ _. ⌜ ShortestIsWrittenBack ⌝ }
     ensures read_forms_are_written { λ _. ⌜ ReadFormsAreWritten ⌝ }
     ensures shortest_form_is_written { λ _. ⌜ ShortestFormIsWritten ⌝ }
