@@ -2,3 +2,4 @@ pub mod Hopping
 pub mod Slot
 pub mod Answer
 pub mod Scan
+pub mod Claims

@@ -1,4 +1,5 @@
-// What a tag does in a slot: the decision, how a list of links is gone through for it, and the decision's numbers.
+// What a tag does in a slot: the decision, how a list of links is gone through for it, and the decision's numbers; a theorem about it.
+ghost use Rattle.slot_spec.specs.Claims.{SleepsExactlyWhenIdle, SomeSleepAndSomeDoNot};
 
 // What is done in a slot: nothing, because the schedule was refused or because the slot is free, or a frame is sent or awaited on
 // the link at an index of the list, on a channel.
@@ -40,3 +41,9 @@ pub struct Scan {
     pub transmit: Search,
     pub receive: Search,
 }
+
+// Cites each theorem, so that the gate fails if the proof of one goes.
+pub fn theorems()
+    ensures sleeps_exactly_when_idle { λ _. ⌜ SleepsExactlyWhenIdle ⌝ }
+    ensures some_sleep_and_some_do_not { λ _. ⌜ SomeSleepAndSomeDoNot ⌝ }
+{}
