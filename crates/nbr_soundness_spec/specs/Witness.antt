@@ -8,7 +8,7 @@ use lib.ListN.{getD, replicate}
 use Rattle.refusal.specs.Refusal.{done, outOfLimits, tableFull, unknownNeighbour}
 use Rattle.nbr_metric_spec.specs.declared.Place.{Place}
 use Rattle.nbr_metric_spec.specs.Metric.{blank, eligible, pathCost}
-use Rattle.nbr_table_spec.specs.Places.{best, free, known, some}
+use Rattle.nbr_table_spec.specs.Places.{best, free, known, somePlace}
 use Rattle.nbr_table_spec.specs.declared.Parent.the-variants.{None, Held}
 use Rattle.nbr_table_spec.specs.declared.Table.{Table}
 use Rattle.nbr_table_spec.specs.Calls.{advertised, answer, broken, emptyTable, evaluated, forgotten, held, reported}
@@ -47,7 +47,7 @@ GainsWitnessed =
 abbrev pub FullWitnessed : Type 0
 FullWitnessed =
     (broken fullTable ≡ false)
-    × (some free (fullTable .places) ≡ false)
+    × (somePlace free (fullTable .places) ≡ false)
     × (advertised fullTable 99 256 ≡ answer tableFull fullTable)
     × (reported fullTable 99 1 true ≡ answer unknownNeighbour fullTable)
     × (forgotten fullTable 99 ≡ answer unknownNeighbour fullTable)

@@ -17,7 +17,7 @@ use Rattle.nbr_table_spec.specs.declared.Table.{Table}
 use Rattle.nbr_table_spec.specs.Calls.{broken, evaluated, held, heldCost, sameParent}
 use Rattle.nbr_soundness_spec.proofs.Kept.{calls-keep-tables}
 use Rattle.nbr_soundness_spec.proofs.Chosen.{changes-gain-641, eligible-after, held-cost-from}
-use Rattle.nbr_stability_spec.specs.Stability.{AtMost101Changes, Call, NoneRefused, ParentsDoNotFlap, EntryExit, after, any, applies, changes, eachEligible, evaluations, firstCost, lastCost, noneRefused, rises}
+use Rattle.nbr_stability_spec.specs.Stability.{AtMost101Changes, Call, NoneRefused, ParentsDoNotFlap, EntryExit, after, someEvaluation, applies, changes, eachEligible, evaluations, firstCost, lastCost, noneRefused, rises}
 use Rattle.nbr_stability_spec.specs.Stability.Call.{Advertise, Report, Forget, Evaluate}
 
 -- ---- one evaluation
@@ -76,19 +76,19 @@ unfolding firstCost
 first-to [] a = omega arith
 first-to (v ∷ vs) (more p hi lo a) = hi
 
-last-from : (vs : List EntryExit) → any vs ≡ true → AllFall vs → 512 ≤ lastCost vs
-unfolding lastCost any
+last-from : (vs : List EntryExit) → someEvaluation vs ≡ true → AllFall vs → 512 ≤ lastCost vs
+unfolding lastCost someEvaluation
 last-from [] h a = clash false h refl
 last-from (v ∷ []) h (more p hi lo a) = lo
 last-from (v ∷ w ∷ vs) h (more p hi lo a) = last-from (w ∷ vs) refl a
 
 -- ---- the claims
 module _ (t : Table) (cs : List Call) (h : applies t cs ≡ true) where
-  parts : (broken t ≡ false) × (any (evaluations t cs) ≡ true) × (eachEligible (evaluations t cs) ≡ true)
+  parts : (broken t ≡ false) × (someEvaluation (evaluations t cs) ≡ true) × (eachEligible (evaluations t cs) ≡ true)
   unfolding applies
   parts =
-      let k = both (not (broken t)) (any (evaluations t cs) && eachEligible (evaluations t cs)) h in
-      let l = both (any (evaluations t cs)) (eachEligible (evaluations t cs)) (k .1) in
+      let k = both (not (broken t)) (someEvaluation (evaluations t cs) && eachEligible (evaluations t cs)) h in
+      let l = both (someEvaluation (evaluations t cs)) (eachEligible (evaluations t cs)) (k .1) in
       (not-true (broken t) (k .0), l .0, l .1)
 
   fallen : AllFall (evaluations t cs)

@@ -63,9 +63,9 @@ eachEligible [] = true
 eachEligible (visit ∷ visits) = eligible (held (visit .entry)) && eachEligible visits
 
 -- there is at least one evaluation
-unfoldable pub any : List EntryExit → Bool
-any [] = false
-any (visit ∷ visits) = true
+unfoldable pub someEvaluation : List EntryExit → Bool
+someEvaluation [] = false
+someEvaluation (visit ∷ visits) = true
 
 -- no evaluation is refused
 unfoldable pub noneRefused : List EntryExit → Bool
@@ -74,7 +74,7 @@ noneRefused (visit ∷ visits) = eqb (evaluated (visit .entry) .number) 0 && non
 
 -- the lists that the claim is about: a table that is not refused, at least one evaluation, an eligible parent at each
 unfoldable pub applies : Table → List Call → Bool
-applies table calls = not (broken table) && (any (evaluations table calls) && eachEligible (evaluations table calls))
+applies table calls = not (broken table) && (someEvaluation (evaluations table calls) && eachEligible (evaluations table calls))
 
 -- the claim
 abbrev pub ParentsDoNotFlap : Type 0

@@ -18,9 +18,9 @@ unfoldable pub named : ℕ → Place → Bool
 named id place = place .used && eqb (place .id) id
 
 -- some place passes the test
-unfoldable pub some : (Place → Bool) → List Place → Bool
-some test [] = false
-some test (place ∷ places) = test place || some test places
+unfoldable pub somePlace : (Place → Bool) → List Place → Bool
+somePlace test [] = false
+somePlace test (place ∷ places) = test place || somePlace test places
 
 -- the lowest-numbered place that passes the test, and the blank place if none does
 unfoldable pub firstOf : (Place → Bool) → List Place → Place
@@ -34,7 +34,7 @@ changeFirst test change (place ∷ places) = cond (test place) (change place ∷
 
 -- the neighbour is in the table
 abbrev pub known : ℕ → List Place → Bool
-known id places = some (named id) places
+known id places = somePlace (named id) places
 
 -- ---- which places break a rule
 -- a place is not all zero
