@@ -11,6 +11,7 @@ pub witnessed : Witnessed
 unfolding advertised reported forgotten evaluated chosen without broken parentMissing heldPlace attempted bestOf better nearer changeFirst firstOf free named nonzero somePlace twice unfit eligible pathCost increment ifEq ifLt ifOn
 witnessed = (
   (refl, refl, refl, refl, refl, refl, refl),
+  (refl, refl, refl, refl),
   (refl, refl, refl, refl, refl, refl, refl, refl),
   (refl, refl, refl, refl),
 )

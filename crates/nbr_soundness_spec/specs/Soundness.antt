@@ -33,6 +33,11 @@ BestComesFirst = (places : List Place) (i : ℕ) → eligible (getD places i bla
 abbrev pub BestIsAPlace : Type 0
 BestIsAPlace = (places : List Place) → eligible (best places) ≡ true → (i : ℕ) × (i < length places) × (getD places i blank ≡ best places)
 
+-- an eligible neighbour costs from 512 to 65534, where no more attempts are acknowledged than were made, as in every table that is not
+-- refused
+abbrev pub EligibleCosts : Type 0
+EligibleCosts = (place : Place) → place .acked ≤ place .attempts → eligible place ≡ true → (512 ≤ pathCost place) × (pathCost place ≤ 65534)
+
 -- evaluate sets the held parent and nothing else
 abbrev pub EvaluateKeepsPlaces : Type 0
 EvaluateKeepsPlaces = (table : Table) → evaluated table .table .places ≡ table .places

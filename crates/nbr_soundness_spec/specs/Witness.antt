@@ -42,6 +42,14 @@ GainsWitnessed =
     × (eligible (getD (twoNeighbours 1408 767 .places) 1 blank) ≡ true)
     × (evaluated (twoNeighbours 1408 768) .table ≡ twoNeighbours 1408 768)
 
+-- eligible neighbours cost 512 and 65534
+abbrev pub CostsWitnessed : Type 0
+CostsWitnessed =
+    (eligible (costing 1 512) ≡ true)
+    × (pathCost (costing 1 512) ≡ 512)
+    × (eligible (costing 1 65534) ≡ true)
+    × (pathCost (costing 1 65534) ≡ 65534)
+
 -- a full table breaks no rule, refuses a new neighbour with 11 and an unknown one with 10, and takes a new one once neighbour 7
 -- is forgotten
 abbrev pub FullWitnessed : Type 0
@@ -65,4 +73,4 @@ RefusalsWitnessed =
 
 -- all of them
 abbrev pub Witnessed : Type 0
-Witnessed = GainsWitnessed × FullWitnessed × RefusalsWitnessed
+Witnessed = GainsWitnessed × CostsWitnessed × FullWitnessed × RefusalsWitnessed

@@ -85,14 +85,14 @@ heldPlace (Held id) places = firstOf (named id) places
 abbrev pub held : Table → Place
 held table = heldPlace (table .parent) (table .places)
 
--- the held parent's path cost
-abbrev pub heldCost : Table → ℕ
-heldCost table = pathCost (held table)
-
 -- whether a parent is held
 unfoldable pub markOf : Parent → Bool
 markOf None = false
 markOf (Held id) = true
+
+-- the held parent's path cost, 0 for none
+abbrev pub heldCost : Table → ℕ
+heldCost table = ifOn (markOf (table .parent)) (pathCost (held table)) 0
 
 -- the held parent's identifier, 0 for none
 unfoldable pub idOf : Parent → ℕ
