@@ -1,12 +1,14 @@
 -- Parents do not flap: one claim about every list of calls (docs/RULES.md, Neighbours). Assumes nothing.
-use Prim.Native.Nat.{ℕ, _+_, _*_, _-_, _<_, _≤_}
+use Prim.Native.Nat.{ℕ, _+_, _*_, _-_, _<_, _≤_, _^_}
 use mathlib.Core.Path.{_≡_}
 use mathlib.Core.Bool.{Bool, true, false, cond, not, _&&_}
 use mathlib.Core.List.{List, [], _∷_}
-use lib.Dec.{eqb}
+use lib.ListN.{length}
+use lib.Dec.{eqb, ltb}
+use Rattle.nbr_metric_spec.specs.declared.Place.{Place}
 use Rattle.nbr_metric_spec.specs.Metric.{eligible}
 use Rattle.nbr_table_spec.specs.declared.Table.{Table}
-use Rattle.nbr_table_spec.specs.Calls.{advertised, broken, evaluated, forgotten, held, heldCost, reported, sameParent}
+use Rattle.nbr_table_spec.specs.Calls.{advertised, broken, evaluated, forgotten, held, heldCost, idOf, reported, sameParent}
 
 -- a call, with what it is given besides the table
 pub data Call : Type 0 where
@@ -90,12 +92,37 @@ AtMost101Changes = (table : Table) (calls : List Call) → applies table calls �
 abbrev pub NoneRefused : Type 0
 NoneRefused = (table : Table) (calls : List Call) → broken table ≡ false → noneRefused (evaluations table calls) ≡ true
 
+-- a place's numbers are those of the code's type: an identifier of 64 bits, and 16 bits for each of the others
+unfoldable pub placeFits : Place → Bool
+placeFits place = ltb (place .id) (2 ^ 64) && (ltb (place .rank) (2 ^ 16) && (ltb (place .attempts) (2 ^ 16) && ltb (place .acked) (2 ^ 16)))
+
+-- those of all places are
+unfoldable pub placesFit : List Place → Bool
+placesFit [] = true
+placesFit (place ∷ places) = placeFits place && placesFit places
+
+-- a table is one of the code's type: 32 places, and numbers that fit
+unfoldable pub tableFits : Table → Bool
+tableFits table = eqb (length (table .places)) 32 && (placesFit (table .places) && ltb (idOf (table .parent)) (2 ^ 64))
+
+-- what a call is given fits too, as in a log
+unfoldable pub callFits : Call → Bool
+callFits (Advertise id rank) = ltb id (2 ^ 64) && ltb rank (2 ^ 16)
+callFits (Report id attempts acked) = ltb id (2 ^ 64) && ltb attempts (2 ^ 16)
+callFits (Forget id) = ltb id (2 ^ 64)
+callFits Evaluate = true
+
+-- a table and calls that the code can be given
+unfoldable pub fits : Table → List Call → Bool
+fits table [] = tableFits table
+fits table (call ∷ calls) = callFits call && fits table calls
+
 -- the bound is met, by a list with a change and a rise
 abbrev pub BoundIsMet : Type 0
 BoundIsMet =
-    (table : Table) × (calls : List Call) × (applies table calls ≡ true)
+    (table : Table) × (calls : List Call) × (fits table calls ≡ true) × (applies table calls ≡ true)
     × (let visits = evaluations table calls in (0 < changes visits) × (0 < rises visits) × (641 * changes visits + lastCost visits ≡ firstCost visits + rises visits))
 
 -- and there is a list with 101 changes and no rise
 abbrev pub Reaches101 : Type 0
-Reaches101 = (table : Table) × (calls : List Call) × (applies table calls ≡ true) × (rises (evaluations table calls) ≡ 0) × (changes (evaluations table calls) ≡ 101)
+Reaches101 = (table : Table) × (calls : List Call) × (fits table calls ≡ true) × (applies table calls ≡ true) × (rises (evaluations table calls) ≡ 0) × (changes (evaluations table calls) ≡ 101)
