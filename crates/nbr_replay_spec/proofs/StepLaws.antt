@@ -12,7 +12,7 @@ use borrow.Author.Tests.{ne-eqb}
 use Rattle.octets_spec.specs.Choice.{ifEq, ifOn}
 use Rattle.octets_spec.proofs.ChoiceLaws.{choices}
 use Rattle.nbr_metric_spec.specs.declared.Place.{Place}
-use Rattle.nbr_metric_spec.specs.Metric.{blank, eligible, increment, pathCost}
+use Rattle.nbr_metric_spec.specs.Metric.{blank, eligible}
 use Rattle.nbr_table_spec.specs.Places.{best}
 use Rattle.nbr_table_spec.specs.declared.Answer.{Answer}
 use Rattle.nbr_table_spec.specs.declared.Change.{Change}

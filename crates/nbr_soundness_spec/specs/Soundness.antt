@@ -21,13 +21,13 @@ CallsKeepTables =
     × ((id : ℕ) → broken (forgotten table id .table) ≡ false)
     × (broken (evaluated table .table) ≡ false)
 
--- the first place is not after the other by least cost, then lower identifier
-abbrev pub NotAfter : Place → Place → Type 0
-NotAfter first place = (pathCost first ≤ pathCost place) × (pathCost first ≡ pathCost place → first .id ≤ place .id)
+-- the first place is not after the other by least key, then lower identifier
+abbrev pub NotAfter : (Place → ℕ) → Place → Place → Type 0
+NotAfter key first place = (key first ≤ key place) × (key first ≡ key place → first .id ≤ place .id)
 
 -- the best place is eligible as soon as any place is, and comes first by least cost, then lower identifier, among all eligible
 abbrev pub BestComesFirst : Type 0
-BestComesFirst = (places : List Place) (i : ℕ) → eligible (getD places i blank) ≡ true → (eligible (best places) ≡ true) × NotAfter (best places) (getD places i blank)
+BestComesFirst = (places : List Place) (i : ℕ) → eligible (getD places i blank) ≡ true → (eligible (best places) ≡ true) × NotAfter pathCost (best places) (getD places i blank)
 
 -- an eligible best place is one of the places
 abbrev pub BestIsAPlace : Type 0

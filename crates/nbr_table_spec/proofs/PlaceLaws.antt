@@ -13,8 +13,8 @@ use borrow.Author.Tests.{ltb-false}
 use Rattle.octets_spec.specs.Choice.{ifOn}
 use Rattle.octets_spec.proofs.ChoiceLaws.{by-test, choices}
 use Rattle.nbr_metric_spec.specs.declared.Place.{Place}
-use Rattle.nbr_metric_spec.specs.Metric.{blank, eligible, pathCost}
-use Rattle.nbr_table_spec.specs.Places.{better, changeFirst, firstOf, free, named, nearer, nonzero, somePlace, unfit}
+use Rattle.nbr_metric_spec.specs.Metric.{blank}
+use Rattle.nbr_table_spec.specs.Places.{better, changeFirst, firstOf, free, named, lesser, nonzero, somePlace, unfit}
 use Rattle.nbr_table_spec.specs.declared.Found.{Found}
 use Rattle.nbr_table_spec.specs.Stores.{first, found}
 
@@ -83,36 +83,36 @@ found-is ps n at unused i e f h =
     (λ j. record { at = a j; unused = b j })
 
 -- ---- the best place
-module _ (b p : Place) (c d : ℕ) (e : c ≡ pathCost p) (f : d ≡ pathCost b) where
-  pub nearer-cost : c < d → p ≡ nearer b p
-  unfolding nearer
-  nearer-cost h = let k : pathCost p < pathCost b = omega arith in search choices
+module _ (key : Place → ℕ) (b p : Place) where
+  pub lesser-key : key p < key b → p ≡ lesser key b p
+  unfolding lesser
+  lesser-key h = search choices
 
-  pub nearer-held : d ≤ c → d < c → b ≡ nearer b p
-  unfolding nearer
-  nearer-held g h = let k : pathCost b < pathCost p = omega arith in let l : pathCost b ≤ pathCost p = omega arith in search choices
+  pub lesser-kept : key b ≤ key p → key b < key p → b ≡ lesser key b p
+  unfolding lesser
+  lesser-kept g h = search choices
 
-  module _ (g : d ≤ c) (h : c ≤ d) where
-    pub nearer-id : p .id < b .id → p ≡ nearer b p
-    unfolding nearer
-    nearer-id i = let k : pathCost b ≤ pathCost p = omega arith in let l : pathCost p ≤ pathCost b = omega arith in search choices
+  module _ (g : key b ≤ key p) (h : key p ≤ key b) where
+    pub lesser-id : p .id < b .id → p ≡ lesser key b p
+    unfolding lesser
+    lesser-id i = search choices
 
-    pub nearer-tie : b .id ≤ p .id → b ≡ nearer b p
-    unfolding nearer
-    nearer-tie i = let k : pathCost b ≤ pathCost p = omega arith in let l : pathCost p ≤ pathCost b = omega arith in search choices
+    pub lesser-tie : b .id ≤ p .id → b ≡ lesser key b p
+    unfolding lesser
+    lesser-tie i = search choices
 
-module _ (b p : Place) (x y : Bool) where
-  pub better-both : (q : Place) → x ≡ eligible p → x ≡ true → y ≡ eligible b → y ≡ true → q ≡ nearer b p → q ≡ better b p
+module _ (test : Place → Bool) (key : Place → ℕ) (b p : Place) where
+  pub better-both : (q : Place) → test p ≡ true → test b ≡ true → q ≡ lesser key b p → q ≡ better test key b p
   unfolding better ifOn
-  better-both q e u f v h = simp (← e, u, ← f, v) h
+  better-both q e f h = simp (e, f) h
 
-  pub better-new : x ≡ eligible p → x ≡ true → y ≡ eligible b → y ≡ false → p ≡ better b p
+  pub better-new : test p ≡ true → test b ≡ false → p ≡ better test key b p
   unfolding better ifOn
-  better-new e u f v = simp (← e, u, ← f, v)
+  better-new e f = simp (e, f)
 
-  pub better-old : x ≡ eligible p → x ≡ false → b ≡ better b p
+  pub better-old : test p ≡ false → b ≡ better test key b p
   unfolding better ifOn
-  better-old e u = simp (← e, u)
+  better-old e = simp e
 
 -- a disjunction that fails, fails in each part
 pub neither : (a b : Bool) → a || b ≡ false → (a ≡ false) × (b ≡ false)
