@@ -113,16 +113,16 @@ callFits (Forget id) = ltb id (2 ^ 64)
 callFits Evaluate = true
 
 -- a table and calls that the code can be given
-unfoldable pub fits : Table → List Call → Bool
-fits table [] = tableFits table
-fits table (call ∷ calls) = callFits call && fits table calls
+unfoldable pub bothFit : Table → List Call → Bool
+bothFit table [] = tableFits table
+bothFit table (call ∷ calls) = callFits call && bothFit table calls
 
 -- the bound is met, by a list with a change and a rise
 abbrev pub BoundIsMet : Type 0
 BoundIsMet =
-    (table : Table) × (calls : List Call) × (fits table calls ≡ true) × (applies table calls ≡ true)
+    (table : Table) × (calls : List Call) × (bothFit table calls ≡ true) × (applies table calls ≡ true)
     × (let visits = evaluations table calls in (0 < changes visits) × (0 < rises visits) × (641 * changes visits + lastCost visits ≡ firstCost visits + rises visits))
 
 -- and there is a list with 101 changes and no rise
 abbrev pub Reaches101 : Type 0
-Reaches101 = (table : Table) × (calls : List Call) × (fits table calls ≡ true) × (applies table calls ≡ true) × (rises (evaluations table calls) ≡ 0) × (changes (evaluations table calls) ≡ 101)
+Reaches101 = (table : Table) × (calls : List Call) × (bothFit table calls ≡ true) × (applies table calls ≡ true) × (rises (evaluations table calls) ≡ 0) × (changes (evaluations table calls) ≡ 101)

@@ -23,8 +23,8 @@ abbrev pub between : ℕ → ℕ → Table
 between heldAt otherAt = record { places = neighbour 1 (heldAt - 256) 1 1 ∷ neighbour 2 (otherAt - 256) 1 1 ∷ replicate 30 blank; parent = Held 1 }
 
 -- a table with one neighbour, in its first place, and no parent
-abbrev pub alone : Place → Table
-alone place = record { places = place ∷ replicate 31 blank; parent = None }
+abbrev pub oneNeighbour : Place → Table
+oneNeighbour place = record { places = place ∷ replicate 31 blank; parent = None }
 
 -- two numbers that must be the same: what a definition gives, and what the value is
 pub record Worked : Type 0 where
@@ -73,9 +73,9 @@ workedValues =
     ∷ worked (channelOf (2 ^ 40 - 1) 0) 21
     ∷ worked (channelOf (2 ^ 40 - 1) 1) 16
     -- 1 of 255, one failed attempt reported: halved first
-    ∷ worked (reported (alone (neighbour 1 256 255 1)) 1 1 false .number) done
-    ∷ worked (getD (reported (alone (neighbour 1 256 255 1)) 1 1 false .table .places) 0 blank .attempts) 128
-    ∷ worked (getD (reported (alone (neighbour 1 256 255 1)) 1 1 false .table .places) 0 blank .acked) 0
+    ∷ worked (reported (oneNeighbour (neighbour 1 256 255 1)) 1 1 false .number) done
+    ∷ worked (getD (reported (oneNeighbour (neighbour 1 256 255 1)) 1 1 false .table .places) 0 blank .attempts) 128
+    ∷ worked (getD (reported (oneNeighbour (neighbour 1 256 255 1)) 1 1 false .table .places) 0 blank .acked) 0
     ∷ []
 
 -- every value holds
