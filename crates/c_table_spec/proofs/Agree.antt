@@ -9,10 +9,10 @@ use Rattle.octets_spec.specs.Choice.{ifOn, ifLt}
 use Rattle.octets_spec.proofs.ChoiceLaws.{by-test}
 use Rattle.nbr_metric_spec.proofs.MetricLaws.{both}
 use Rattle.nbr_table_spec.proofs.PlaceLaws.{neither}
-use Rattle.nbr_table_spec.specs.Places.{known, some, free}
+use Rattle.nbr_table_spec.specs.Places.{known, somePlace, free}
 use Rattle.nbr_table_spec.specs.declared.Table.{Table}
 use Rattle.nbr_table_spec.specs.Calls.{advertised, broken, evaluated, forgotten, reported, sameParent}
-use Rattle.nbr_stability_spec.specs.Stability.{Call, EntryExit, after, any, applies, changes, eachEligible, evaluations, noneRefused}
+use Rattle.nbr_stability_spec.specs.Stability.{Call, EntryExit, after, someEvaluation, applies, changes, eachEligible, evaluations, noneRefused}
 use Rattle.nbr_stability_spec.specs.Stability.Call.{Advertise, Report, Forget, Evaluate}
 use Rattle.nbr_stability_spec.proofs.Bound.{at-most-101-changes, none-refused, parents-do-not-flap}
 use Rattle.c_table_spec.specs.declared.TableForm.{TableForm}
@@ -32,7 +32,7 @@ unfolding numberOn after advertised reported forgotten evaluated ifOn ifLt
 refused-same table (Advertise id rank) h =
     by-test (broken table) (λ b. rw (after, b))
     (λ b. by-test (known id (table .places)) (λ k. absurd (h (rw (numberOn, b, k))))
-    (λ k. by-test (some free (table .places)) (λ f. absurd (h (rw (numberOn, b, k, f)))) (λ f. rw (after, b, k, f))))
+    (λ k. by-test (somePlace free (table .places)) (λ f. absurd (h (rw (numberOn, b, k, f)))) (λ f. rw (after, b, k, f))))
 refused-same table (Report id attempts acked) h =
     by-test (broken table) (λ b. rw (after, b))
     (λ b. by-test (ltb attempts 1) (λ l. rw (after, b, l))
@@ -117,10 +117,10 @@ unfolding refused
 accepted form h = let n = neither (not (isTable form)) (broken (tableOf form)) h in (not-false (isTable form) (n .0), n .1)
 
 module _ (form : TableForm) (calls : List Call) (h : appliesInC form calls ≡ true) where
-  parts : (refused form ≡ false) × (any (asTables (formEvaluations form calls)) && eachEligible (asTables (formEvaluations form calls)) ≡ true)
+  parts : (refused form ≡ false) × (someEvaluation (asTables (formEvaluations form calls)) && eachEligible (asTables (formEvaluations form calls)) ≡ true)
   unfolding appliesInC
   parts =
-      let k = both (not (refused form)) (any (asTables (formEvaluations form calls)) && eachEligible (asTables (formEvaluations form calls))) h in
+      let k = both (not (refused form)) (someEvaluation (asTables (formEvaluations form calls)) && eachEligible (asTables (formEvaluations form calls))) h in
       (not-true (refused form) (k .0), k .1)
 
   is : isTable form ≡ true

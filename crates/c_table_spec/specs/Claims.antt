@@ -8,7 +8,7 @@ use lib.Dec.{eqb}
 use Rattle.refusal.specs.Refusal.{done, outOfLimits}
 use Rattle.nbr_table_spec.specs.declared.Table.{Table}
 use Rattle.nbr_soundness_spec.specs.Witness.{fullTable, twoNeighbours}
-use Rattle.nbr_stability_spec.specs.Stability.{Call, EntryExit, after, any, changes, eachEligible, evaluations, firstCost, lastCost, rises}
+use Rattle.nbr_stability_spec.specs.Stability.{Call, EntryExit, after, someEvaluation, changes, eachEligible, evaluations, firstCost, lastCost, rises}
 use Rattle.nbr_stability_spec.specs.Stability.Call.{Advertise, Report, Forget, Evaluate}
 use Rattle.c_table_spec.specs.declared.TableForm.{TableForm}
 use Rattle.c_table_spec.specs.Table.{advertisedForm, emptyForm, evaluatedForm, forgottenForm, formOf, isTable, refused, reportedForm, tableOf}
@@ -91,7 +91,7 @@ ChangesAreFlagged =
 -- what the claim is about: a table that is not refused, at least one evaluation, an eligible parent on entry to each
 unfoldable pub appliesInC : TableForm → List Call → Bool
 appliesInC form calls =
-    let visits = asTables (formEvaluations form calls) in not (refused form) && (any visits && eachEligible visits)
+    let visits = asTables (formEvaluations form calls) in not (refused form) && (someEvaluation visits && eachEligible visits)
 
 -- no evaluation answered a refusal
 unfoldable pub noneRefusedInC : List FormEntryExit → Bool

@@ -5,6 +5,7 @@ use nbr_table_spec::Parent;
 ghost use mathlib.Core.Path.{_≡_};
 ghost use mathlib.Core.Bool.{cond};
 ghost use Prim.Native.Nat.{_<_, _≤_, _^_};
+ghost use Rattle.nbr_metric_spec.specs.Metric.{pathCost};
 ghost use Rattle.nbr_table_spec.specs.Calls.{markOf, sameParent};
 ghost use Rattle.octets_spec.specs.Choice.{ifOn};
 ghost use Rattle.nbr_replay_spec.specs.Tally.{shown};
@@ -18,6 +19,18 @@ fn change(before: Parent, after: Parent) -> u32
         return 0;
     }
     1
+}
+
+// The held parent's cost before an evaluation: that of its place, 0 for none.
+fn entry_of(held: nbr_metric_spec::Place, before: Parent) -> u32
+    ensures value { λ r. ⌜ r ≡ ifOn (markOf before) (pathCost held) 0 ⌝ }
+    ensures bound { λ r. ⌜ r < 2 ^ 30 ⌝ }
+{
+    let cost = nbr_metric::path_cost(held);
+    if nbr_parent::held_parent::mark_of(before) {
+        return cost;
+    }
+    0
 }
 
 // The held parent's cost after an evaluation: the own rank, 0 for none.
@@ -39,7 +52,7 @@ pub fn seen(held: nbr_metric_spec::Place, before: Parent, choice: Choice) -> Vis
     let after = choice.parent;
     Visit {
         change: change(before, after),
-        entry: nbr_metric::path_cost(held),
+        entry: entry_of(held, before),
         exit: exit_of(choice),
         eligible: nbr_metric::eligible(held),
     }

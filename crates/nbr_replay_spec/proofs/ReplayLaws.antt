@@ -18,7 +18,7 @@ use Rattle.nbr_table_spec.proofs.PlaceLaws.{clash, length-mapped, split}
 use Rattle.nbr_table_spec.specs.declared.Parent.{Parent}
 use Rattle.nbr_table_spec.specs.declared.Table.{Table}
 use Rattle.nbr_table_spec.specs.Calls.{broken}
-use Rattle.nbr_stability_spec.specs.Stability.{Call, EntryExit, after, any, applies, changes, eachEligible, evaluations, firstCost, lastCost, noneRefused, rises}
+use Rattle.nbr_stability_spec.specs.Stability.{Call, EntryExit, after, someEvaluation, applies, changes, eachEligible, evaluations, firstCost, lastCost, noneRefused, rises}
 use Rattle.nbr_stability_spec.specs.Stability.Call.{Evaluate}
 use Rattle.nbr_stability_spec.proofs.Bound.{at-most-101-changes, kept, none-refused, parents-do-not-flap}
 use Rattle.nbr_replay_spec.specs.Log.{Log, call, calls, callsTo, log, unfitLog}
@@ -117,8 +117,8 @@ applies-some n x h = search choices
 pub applies-none : (n : ℕ) (x : Bool) → n ≤ 0 → false ≡ ifLt 0 n x false
 applies-none n x h = search choices
 
-any-length : (vs : List EntryExit) (x : Bool) → ifLt 0 (length vs) x false ≡ (any vs && x)
-unfolding any ifLt
+any-length : (vs : List EntryExit) (x : Bool) → ifLt 0 (length vs) x false ≡ (someEvaluation vs && x)
+unfolding someEvaluation ifLt
 any-length [] x = refl
 any-length (v ∷ vs) x = rw (lt-ltb 0 (length (v ∷ vs)) (omega arith))
 

@@ -12,7 +12,7 @@ use borrow.Author.Tests.{ne-eqb}
 use Rattle.octets_spec.specs.Choice.{ifEq, ifOn}
 use Rattle.octets_spec.proofs.ChoiceLaws.{choices}
 use Rattle.nbr_metric_spec.specs.declared.Place.{Place}
-use Rattle.nbr_metric_spec.specs.Metric.{blank, eligible, increment, pathCost}
+use Rattle.nbr_metric_spec.specs.Metric.{blank, eligible}
 use Rattle.nbr_table_spec.specs.Places.{best}
 use Rattle.nbr_table_spec.specs.declared.Answer.{Answer}
 use Rattle.nbr_table_spec.specs.declared.Change.{Change}
@@ -25,7 +25,7 @@ use Rattle.nbr_table_spec.specs.Calls.{broken, chosen, evaluated, held, heldCos
 use Rattle.nbr_table_spec.specs.Offers.{settlement}
 use Rattle.nbr_table_spec.specs.Stores.{advertising, forgetting, reporting, stored}
 use Rattle.nbr_table_spec.proofs.StoreLaws.{advertise-done, forget-done, report-done, store-place}
-use Rattle.nbr_soundness_spec.proofs.Chosen.{own-rank}
+use Rattle.nbr_soundness_spec.proofs.Chosen.{held-cost, own-rank}
 use Rattle.nbr_stability_spec.specs.Stability.{Call, after}
 use Rattle.nbr_stability_spec.specs.Stability.Call.{Advertise, Report, Forget, Evaluate}
 use Rattle.nbr_replay_spec.specs.Log.{call}
@@ -37,7 +37,7 @@ use Rattle.nbr_replay_spec.specs.Tally.{IsStep, OneMore, counted, noted,
 
 -- the cost on exit: none, and that of a held parent
 no-exit : (p : Parent) (rank : ℕ) (ps : List Place) → p ≡ None → ifOn (markOf p) rank 0 ≡ heldCost (record { places = ps; parent = p })
-unfolding markOf heldPlace pathCost increment ifOn ifEq
+unfolding markOf ifOn
 no-exit p rank ps e = rw e
 
 an-exit : (p : Parent) (rank n : ℕ) → p ≡ Held n → ifOn (markOf p) rank 0 ≡ rank
@@ -105,8 +105,8 @@ module _ (ps : List Place) (q : Parent) (kind n value flag : ℕ) (b : broken (r
         (λ n. no-exit (c .parent) (c .rank) ps (sym (ap (λ (z : Table). z .parent) v) ∙ n .0))
         (λ n.
         let k : c .parent ≡ Held (held (evaluated t .table) .id) = sym (ap (λ (z : Table). z .parent) v) ∙ n .0 in
-        an-exit (c .parent) (c .rank) _ k ∙ sym r ∙ n .2 ∙ ap heldCost v) (own-rank t b) in
-        (λ i. record { change = cond (sameParent q (c .parent)) 0 1; entry = pathCost (heldPlace q ps); exit = x i; eligible = eligible (heldPlace q ps) }) ∙ ap (visited t) u
+        an-exit (c .parent) (c .rank) _ k ∙ sym r ∙ n .2 ∙ sym (held-cost (evaluated t .table) (n .1)) ∙ ap heldCost v) (own-rank t b) in
+        (λ i. record { change = cond (sameParent q (c .parent)) 0 1; entry = heldCost t; exit = x i; eligible = eligible (heldPlace q ps) }) ∙ ap (visited t) u
 
     pub step-evaluate : (m : Settlement) (z : Place) (v : Visit) → m ≡ settlement ps q → z ≡ blank → v ≡ shown (m .held) q (m .choice) → v .change ≤ 1 → v .entry < 2 ^ 30
         → IsStep t kind (call kind n value flag) (record { at = 32; place = z; parent = m .choice .parent; visit = v })

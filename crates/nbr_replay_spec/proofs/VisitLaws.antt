@@ -23,11 +23,14 @@ module _ (p : Parent) (x : Bool) (n : ℕ) (e : x ≡ markOf p) where
   pub exit-held : x ≡ true → n ≡ ifOn (markOf p) n 0
   exit-held u = let m : markOf p ≡ true = sym e ∙ u in search choices
 
-  pub exit-none : x ≡ false → 0 ≡ ifOn (markOf p) n 0
-  exit-none u = let m : markOf p ≡ false = sym e ∙ u in search choices
+  pub entry-held : (c : ℕ) → c ≡ n → x ≡ true → c ≡ ifOn (markOf p) n 0
+  entry-held c k u = k ∙ exit-held u
 
-pub visit-is : (h : Place) (q : Parent) (c : Choice) (d m l : ℕ) (x : Bool) → d ≡ cond (sameParent q (c .parent)) 0 1 → m ≡ pathCost h → l ≡ ifOn (markOf (c .parent)) (c .rank) 0 → x ≡ eligible h
+  pub none-held : x ≡ false → 0 ≡ ifOn (markOf p) n 0
+  none-held u = let m : markOf p ≡ false = sym e ∙ u in search choices
+
+pub visit-is : (h : Place) (q : Parent) (c : Choice) (d m l : ℕ) (x : Bool) → d ≡ cond (sameParent q (c .parent)) 0 1 → m ≡ ifOn (markOf q) (pathCost h) 0 → l ≡ ifOn (markOf (c .parent)) (c .rank) 0 → x ≡ eligible h
     → _≡_ {A = Visit} (record { change = d; entry = m; exit = l; eligible = x }) (shown h q c)
 visit-is h q c d m l x e f g k = λ i. record { change = e i; entry = f i; exit = g i; eligible = k i }
 
-pub ruleset visitWays = (change-none, change-one, exit-held, exit-none, visit-is)
+pub ruleset visitWays = (change-none, change-one, exit-held, entry-held, none-held, visit-is)

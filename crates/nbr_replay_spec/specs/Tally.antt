@@ -61,7 +61,7 @@ abbrev pub shown : Place → Parent → Choice → Visit
 shown held parent choice =
     record {
       change = cond (sameParent parent (choice .parent)) 0 1;
-      entry = pathCost held;
+      entry = ifOn (markOf parent) (pathCost held) 0;
       exit = ifOn (markOf (choice .parent)) (choice .rank) 0;
       eligible = eligible held;
     }

@@ -3,6 +3,7 @@ use Prim.Native.Nat.{ℕ, _+_, _-_, _≤_, _<_}
 use native.Mathlib.Omega.{arith}
 use mathlib.Core.Path.{_≡_, refl, sym, ap, subst}
 use mathlib.Core.Bool.{true, false}
+use mathlib.Core.List.{List}
 use mathlib.Core.Logic.{inl, inr}
 use lib.ListN.{getD}
 use lib.Dec.{ltb}
@@ -16,8 +17,8 @@ use Rattle.nbr_table_spec.proofs.PlaceLaws.{clash, fit-limits, none-at, split}
 use Rattle.nbr_table_spec.specs.declared.Parent.{Parent}
 use Rattle.nbr_table_spec.specs.declared.Parent.the-variants.{None, Held}
 use Rattle.nbr_table_spec.specs.declared.Table.{Table}
-use Rattle.nbr_table_spec.specs.Calls.{parentMissing, broken, chosen, evaluated, held, heldPlace, withParent}
-use Rattle.nbr_soundness_spec.specs.Soundness.{ChangesGain641, EvaluateKeepsPlaces, OwnRank}
+use Rattle.nbr_table_spec.specs.Calls.{parentMissing, broken, chosen, evaluated, held, heldCost, heldPlace, markOf, withParent}
+use Rattle.nbr_soundness_spec.specs.Soundness.{ChangesGain641, EligibleCosts, EvaluateKeepsPlaces, OwnRank}
 use Rattle.nbr_soundness_spec.proofs.Best.{Stands, best-comes-first, best-is-a-place}
 use Rattle.nbr_soundness_spec.proofs.Places.{first-at, first-named, first-stands}
 use Rattle.nbr_soundness_spec.proofs.Kept.{best-known, blank-fit, held-known, held-sound, sound}
@@ -75,8 +76,20 @@ changes-gain-641 t f =
     (λ g. rw (h, e, f, g) (inr (taken-gain t h e (ltb-true 640 (pathCost (held t) - pathCost (best (t .places))) g)))) (λ g. rw (h, e, f, g) (inl refl)))
 
 -- ---- the held parent stays eligible, and costs at least 512
+pub eligible-costs : EligibleCosts
+eligible-costs p fair e = (cost-from p e fair, cost-to p e)
+
 pub held-cost-from : (u : Table) → broken u ≡ false → eligible (held u) ≡ true → 512 ≤ pathCost (held u)
 held-cost-from u h e = cost-from (held u) e (stands-fit u h (held u) (held-stands u h (u .parent) (sound u h .there) e))
+
+-- the cost of a held parent that is eligible is that of its place
+cost-of-held : (q : Parent) (ps : List Place) → eligible (heldPlace q ps) ≡ true → ifOn (markOf q) (pathCost (heldPlace q ps)) 0 ≡ pathCost (heldPlace q ps)
+unfolding heldPlace markOf ifOn
+cost-of-held None ps e = clash (eligible blank) e blank-not-eligible
+cost-of-held (Held n) ps e = refl
+
+pub held-cost : (t : Table) → eligible (held t) ≡ true → heldCost t ≡ pathCost (held t)
+held-cost t e = cost-of-held (t .parent) (t .places) e
 
 pub eligible-after : (t : Table) → broken t ≡ false → eligible (held t) ≡ true → eligible (held (evaluated t .table)) ≡ true
 unfolding evaluated chosen ifOn ifLt

@@ -10,7 +10,7 @@ use Rattle.octets_spec.specs.Choice.{ifEq, ifLt, ifOn}
 use Rattle.nbr_metric_spec.specs.declared.Place.{Place}
 use Rattle.nbr_metric_spec.specs.Metric.{blank, eligible, pathCost}
 use Rattle.nbr_metric_spec.proofs.MetricLaws.{eligible-used}
-use Rattle.nbr_table_spec.specs.Places.{best, changeFirst, free, known, named, nonzero, some, twice, unfit}
+use Rattle.nbr_table_spec.specs.Places.{best, changeFirst, free, known, named, nonzero, somePlace, twice, unfit}
 use Rattle.nbr_table_spec.proofs.PlaceLaws.{clash, fit-limits, neither, split}
 use Rattle.nbr_table_spec.specs.declared.Parent.{Parent}
 use Rattle.nbr_table_spec.specs.declared.Parent.the-variants.{None, Held}
@@ -23,14 +23,14 @@ use Rattle.nbr_soundness_spec.proofs.Places.{fit-kept, free-not-named, 
 
 -- ---- the rules that a table keeps, apart and together
 pub record Sound (ps : List Place) (q : Parent) : Type 0 where
-  pub fit : some unfit ps ≡ false
+  pub fit : somePlace unfit ps ≡ false
   pub apart : twice ps ≡ false
   pub there : parentMissing q ps ≡ false
 
 pub sound : (t : Table) → broken t ≡ false → Sound (t .places) (t .parent)
 unfolding broken
 sound t h =
-    let n₁ = neither (some unfit (t .places)) (twice (t .places) || parentMissing (t .parent) (t .places)) h in
+    let n₁ = neither (somePlace unfit (t .places)) (twice (t .places) || parentMissing (t .parent) (t .places)) h in
     let n₂ = neither (twice (t .places)) (parentMissing (t .parent) (t .places)) (n₁ .1) in
     record { fit = n₁ .0; apart = n₂ .0; there = n₂ .1 }
 
@@ -123,7 +123,7 @@ module _ (t : Table) (h : broken t ≡ false) where
   advertised-sound n rank =
       split (known n (t .places))
       (λ e. rw (h, e) (changed-sound n (withRank rank) (λ p u f. rank-fit n p u f rank) (λ p. refl) (λ p. refl)))
-      (λ e. split (some free (t .places)) (λ f. rw (h, e, f) (added-sound n rank e)) (λ f. rw (h, e, f) h))
+      (λ e. split (somePlace free (t .places)) (λ f. rw (h, e, f) (added-sound n rank e)) (λ f. rw (h, e, f) h))
 
   pub reported-sound : (n k : ℕ) (ok : Bool) → broken (reported t n k ok .table) ≡ false
   unfolding reported ifOn ifLt
@@ -193,12 +193,12 @@ pub calls-keep-tables : CallsKeepTables
 calls-keep-tables t h = (advertised-sound t h, reported-sound t h, forgotten-sound t h, evaluated-sound t h)
 
 -- ---- room after a forget
-freed : (n : ℕ) (ps : List Place) → known n ps ≡ true → some free (changeFirst (named n) (λ p. blank) ps) ≡ true
-unfolding some changeFirst free
+freed : (n : ℕ) (ps : List Place) → known n ps ≡ true → somePlace free (changeFirst (named n) (λ p. blank) ps) ≡ true
+unfolding somePlace changeFirst free
 freed n [] h = h
 freed n (p ∷ ps) h = split (named n p) (λ e. rw e) (λ e. rw e (rw (freed n ps (rw e at h)) (or-true (free p))))
 
-accepted : (t : Table) → broken t ≡ false → some free (t .places) ≡ true → (m rank : ℕ) → advertised t m rank .number ≡ 0
+accepted : (t : Table) → broken t ≡ false → somePlace free (t .places) ≡ true → (m rank : ℕ) → advertised t m rank .number ≡ 0
 unfolding advertised ifOn
 accepted t h f m rank = split (known m (t .places)) (λ e. rw (h, e)) (λ e. rw (h, e, f))
 

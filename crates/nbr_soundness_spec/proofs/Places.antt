@@ -11,7 +11,7 @@ use borrow.Author.Tests.{eq-eqb, eqb-true, not-true}
 use Rattle.nbr_metric_spec.specs.declared.Place.{Place}
 use Rattle.nbr_metric_spec.specs.Metric.{blank}
 use Rattle.nbr_metric_spec.proofs.MetricLaws.{both}
-use Rattle.nbr_table_spec.specs.Places.{changeFirst, firstOf, free, known, named, some, twice, unfit}
+use Rattle.nbr_table_spec.specs.Places.{changeFirst, firstOf, free, known, named, somePlace, twice, unfit}
 use Rattle.nbr_table_spec.proofs.PlaceLaws.{clash, neither, split}
 
 -- ---- one place
@@ -32,16 +32,16 @@ free-not-named n p f h = clash (p .used) (named-says n p h .0) (not-true (p .use
 
 -- ---- a change of the first place that meets a test
 module _ (f : Place → Bool) (g : Place → Place) where
-  pub fit-kept : ((p : Place) → f p ≡ true → unfit p ≡ false → unfit (g p) ≡ false) → (ps : List Place) → some unfit ps ≡ false → some unfit (changeFirst f g ps) ≡ false
-  unfolding some changeFirst
+  pub fit-kept : ((p : Place) → f p ≡ true → unfit p ≡ false → unfit (g p) ≡ false) → (ps : List Place) → somePlace unfit ps ≡ false → somePlace unfit (changeFirst f g ps) ≡ false
+  unfolding somePlace changeFirst
   fit-kept k [] h = refl
   fit-kept k (p ∷ ps) h =
-      let n = neither (unfit p) (some unfit ps) h in
+      let n = neither (unfit p) (somePlace unfit ps) h in
       split (f p) (λ e. rw e (rw (k p e (n .0)) (n .1))) (λ e. rw e (rw (n .0) (fit-kept k ps (n .1))))
 
   module _ (m : ℕ) where
     pub known-kept : ((p : Place) → f p ≡ true → named m p ≡ true → named m (g p) ≡ true) → (ps : List Place) → known m ps ≡ true → known m (changeFirst f g ps) ≡ true
-    unfolding some changeFirst
+    unfolding somePlace changeFirst
     known-kept k [] h = h
     known-kept k (p ∷ ps) h =
         split (named m p)
@@ -49,7 +49,7 @@ module _ (f : Place → Bool) (g : Place → Place) where
         (λ u. let r : known m ps ≡ true = rw u at h in split (f p) (λ e. rw e (rw r (or-true (named m (g p))))) (λ e. rw e (rw (known-kept k ps r) (or-true (named m p)))))
 
     pub unknown-kept : ((p : Place) → f p ≡ true → named m p ≡ false → named m (g p) ≡ false) → (ps : List Place) → known m ps ≡ false → known m (changeFirst f g ps) ≡ false
-    unfolding some changeFirst
+    unfolding somePlace changeFirst
     unknown-kept k [] h = refl
     unknown-kept k (p ∷ ps) h =
         let n = neither (named m p) (known m ps) h in
@@ -62,7 +62,7 @@ module _ (f : Place → Bool) (g : Place → Place) where
     same-named m p = rw (u p, i p)
 
     pub same-known : (m : ℕ) (ps : List Place) → known m (changeFirst f g ps) ≡ known m ps
-    unfolding some changeFirst
+    unfolding somePlace changeFirst
     same-known m [] = refl
     same-known m (p ∷ ps) = split (f p) (λ e. rw e (rw (same-named m p))) (λ e. rw e (rw (same-known m ps)))
 
@@ -74,7 +74,7 @@ module _ (f : Place → Bool) (g : Place → Place) where
 -- a place q is put where the first place that meets a test stood, and its identifier stood nowhere
 module _ (f : Place → Bool) (q : Place) where
   pub twice-put : (ps : List Place) → (q .used ≡ true → known (q .id) ps ≡ false) → twice ps ≡ false → twice (changeFirst f (λ p. q) ps) ≡ false
-  unfolding twice changeFirst some
+  unfolding twice changeFirst somePlace
   twice-put [] k h = refl
   twice-put (p ∷ ps) k h =
       let n = neither (p .used && known (p .id) ps) (twice ps) h in
@@ -92,7 +92,7 @@ module _ (f : Place → Bool) (q : Place) where
 
 -- ---- places by number
 pub known-at : (ps : List Place) (i : ℕ) → i < length ps → getD ps i blank .used ≡ true → known (getD ps i blank .id) ps ≡ true
-unfolding some
+unfolding somePlace
 known-at [] i l u = absurd (omega arith)
 known-at (p ∷ ps) zero l u = rw (named-self p u)
 known-at (p ∷ ps) (suc i) l u = rw (known-at ps i (omega arith) u) (or-true (named (getD ps i blank .id) p))
@@ -112,14 +112,14 @@ first-at (p ∷ ps) (suc i) l u h =
     (λ e. rw e (first-at ps i (omega arith) u (n .1)))
 
 -- a place that is found stands at some number
-pub first-stands : (f : Place → Bool) (ps : List Place) → some f ps ≡ true → (i : ℕ) × (i < length ps) × (getD ps i blank ≡ firstOf f ps)
-unfolding some firstOf
+pub first-stands : (f : Place → Bool) (ps : List Place) → somePlace f ps ≡ true → (i : ℕ) × (i < length ps) × (getD ps i blank ≡ firstOf f ps)
+unfolding somePlace firstOf
 first-stands f [] h = clash false h refl
 first-stands f (p ∷ ps) h =
     split (f p) (λ e. rw e (0, omega arith, refl))
     (λ e. let s = first-stands f ps (rw e at h) in rw e (suc (s .0), omega arith, s .2))
 
 pub first-named : (n : ℕ) (ps : List Place) → known n ps ≡ true → firstOf (named n) ps .id ≡ n
-unfolding some firstOf
+unfolding somePlace firstOf
 first-named n [] h = clash false h refl
 first-named n (p ∷ ps) h = split (named n p) (λ e. rw e (named-says n p e .1)) (λ e. rw e (first-named n ps (rw e at h)))

@@ -21,17 +21,22 @@ CallsKeepTables =
     × ((id : ℕ) → broken (forgotten table id .table) ≡ false)
     × (broken (evaluated table .table) ≡ false)
 
--- the first place is not after the other by least cost, then lower identifier
-abbrev pub NotAfter : Place → Place → Type 0
-NotAfter first place = (pathCost first ≤ pathCost place) × (pathCost first ≡ pathCost place → first .id ≤ place .id)
+-- the first place is not after the other by least key, then lower identifier
+abbrev pub NotAfter : (Place → ℕ) → Place → Place → Type 0
+NotAfter key first place = (key first ≤ key place) × (key first ≡ key place → first .id ≤ place .id)
 
 -- the best place is eligible as soon as any place is, and comes first by least cost, then lower identifier, among all eligible
 abbrev pub BestComesFirst : Type 0
-BestComesFirst = (places : List Place) (i : ℕ) → eligible (getD places i blank) ≡ true → (eligible (best places) ≡ true) × NotAfter (best places) (getD places i blank)
+BestComesFirst = (places : List Place) (i : ℕ) → eligible (getD places i blank) ≡ true → (eligible (best places) ≡ true) × NotAfter pathCost (best places) (getD places i blank)
 
 -- an eligible best place is one of the places
 abbrev pub BestIsAPlace : Type 0
 BestIsAPlace = (places : List Place) → eligible (best places) ≡ true → (i : ℕ) × (i < length places) × (getD places i blank ≡ best places)
+
+-- an eligible neighbour costs from 512 to 65534, where no more attempts are acknowledged than were made, as in every table that is not
+-- refused
+abbrev pub EligibleCosts : Type 0
+EligibleCosts = (place : Place) → place .acked ≤ place .attempts → eligible place ≡ true → (512 ≤ pathCost place) × (pathCost place ≤ 65534)
 
 -- evaluate sets the held parent and nothing else
 abbrev pub EvaluateKeepsPlaces : Type 0

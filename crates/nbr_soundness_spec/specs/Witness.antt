@@ -8,7 +8,7 @@ use lib.ListN.{getD, replicate}
 use Rattle.refusal.specs.Refusal.{done, outOfLimits, tableFull, unknownNeighbour}
 use Rattle.nbr_metric_spec.specs.declared.Place.{Place}
 use Rattle.nbr_metric_spec.specs.Metric.{blank, eligible, pathCost}
-use Rattle.nbr_table_spec.specs.Places.{best, free, known, some}
+use Rattle.nbr_table_spec.specs.Places.{best, free, known, somePlace}
 use Rattle.nbr_table_spec.specs.declared.Parent.the-variants.{None, Held}
 use Rattle.nbr_table_spec.specs.declared.Table.{Table}
 use Rattle.nbr_table_spec.specs.Calls.{advertised, answer, broken, emptyTable, evaluated, forgotten, held, reported}
@@ -42,12 +42,20 @@ GainsWitnessed =
     × (eligible (getD (twoNeighbours 1408 767 .places) 1 blank) ≡ true)
     × (evaluated (twoNeighbours 1408 768) .table ≡ twoNeighbours 1408 768)
 
+-- eligible neighbours cost 512 and 65534
+abbrev pub CostsWitnessed : Type 0
+CostsWitnessed =
+    (eligible (costing 1 512) ≡ true)
+    × (pathCost (costing 1 512) ≡ 512)
+    × (eligible (costing 1 65534) ≡ true)
+    × (pathCost (costing 1 65534) ≡ 65534)
+
 -- a full table breaks no rule, refuses a new neighbour with 11 and an unknown one with 10, and takes a new one once neighbour 7
 -- is forgotten
 abbrev pub FullWitnessed : Type 0
 FullWitnessed =
     (broken fullTable ≡ false)
-    × (some free (fullTable .places) ≡ false)
+    × (somePlace free (fullTable .places) ≡ false)
     × (advertised fullTable 99 256 ≡ answer tableFull fullTable)
     × (reported fullTable 99 1 true ≡ answer unknownNeighbour fullTable)
     × (forgotten fullTable 99 ≡ answer unknownNeighbour fullTable)
@@ -65,4 +73,4 @@ RefusalsWitnessed =
 
 -- all of them
 abbrev pub Witnessed : Type 0
-Witnessed = GainsWitnessed × FullWitnessed × RefusalsWitnessed
+Witnessed = GainsWitnessed × CostsWitnessed × FullWitnessed × RefusalsWitnessed

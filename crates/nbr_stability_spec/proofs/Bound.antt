@@ -1,6 +1,6 @@
 -- Parents do not flap: the proof. One evaluation whose held parent is eligible satisfies
 -- 641 × change + cost on exit ≤ cost on entry, and the list adds these up. Assumes nothing.
-use Prim.Native.Nat.{_+_, _*_, _-_, _≤_}
+use Prim.Native.Nat.{ℕ, _+_, _*_, _-_, _≤_}
 use native.Mathlib.Omega.{arith}
 use mathlib.Core.Path.{_≡_, refl, sym, subst}
 use mathlib.Core.Bool.{Bool, true, false, cond, not, _&&_}
@@ -8,16 +8,16 @@ use mathlib.Core.List.{List, [], _∷_}
 use mathlib.Core.Logic.{⊎-elim}
 use borrow.Author.Tests.{eq-eqb, not-true}
 use Rattle.octets_spec.specs.Choice.{ifOn}
-use Rattle.nbr_metric_spec.specs.Metric.{eligible}
+use Rattle.nbr_metric_spec.specs.Metric.{eligible, pathCost}
 use Rattle.nbr_metric_spec.proofs.MetricLaws.{both, cost-to}
 use Rattle.nbr_table_spec.proofs.PlaceLaws.{clash}
 use Rattle.nbr_table_spec.specs.declared.Parent.{Parent}
 use Rattle.nbr_table_spec.specs.declared.Parent.the-variants.{None, Held}
 use Rattle.nbr_table_spec.specs.declared.Table.{Table}
-use Rattle.nbr_table_spec.specs.Calls.{broken, evaluated, held, heldCost, sameParent}
+use Rattle.nbr_table_spec.specs.Calls.{broken, evaluated, held, heldCost, markOf, sameParent}
 use Rattle.nbr_soundness_spec.proofs.Kept.{calls-keep-tables}
-use Rattle.nbr_soundness_spec.proofs.Chosen.{changes-gain-641, eligible-after, held-cost-from}
-use Rattle.nbr_stability_spec.specs.Stability.{AtMost101Changes, Call, NoneRefused, ParentsDoNotFlap, EntryExit, after, any, applies, changes, eachEligible, evaluations, firstCost, lastCost, noneRefused, rises}
+use Rattle.nbr_soundness_spec.proofs.Chosen.{changes-gain-641, eligible-after, held-cost, held-cost-from}
+use Rattle.nbr_stability_spec.specs.Stability.{AtMost101Changes, Call, NoneRefused, ParentsDoNotFlap, EntryExit, after, someEvaluation, applies, changes, eachEligible, evaluations, firstCost, lastCost, noneRefused, rises}
 use Rattle.nbr_stability_spec.specs.Stability.Call.{Advertise, Report, Forget, Evaluate}
 
 -- ---- one evaluation
@@ -30,6 +30,11 @@ one-at-most : (x : Bool) → cond x 0 1 ≤ 1
 one-at-most true = omega arith
 one-at-most false = omega arith
 
+none-costs-less : (x : Bool) (n : ℕ) → ifOn x n 0 ≤ n
+unfolding ifOn
+none-costs-less true n = omega arith
+none-costs-less false n = omega arith
+
 -- the cost falls by 641 at least where the parent changes, and never rises
 abbrev Falls : EntryExit → Type 0
 Falls v = 641 * cond (sameParent (v .entry .parent) (v .exit .parent)) 0 1 + heldCost (v .exit) ≤ heldCost (v .entry)
@@ -38,7 +43,9 @@ falls : (t : Table) → eligible (held t) ≡ true → Falls (record { entry = t
 falls t e =
     ⊎-elim
     (λ k. subst (λ (u : Table). 641 * cond (sameParent (t .parent) (u .parent)) 0 1 + heldCost u ≤ heldCost t) (sym k) (rw (same-self (t .parent)) (omega arith)))
-    (λ k. omega (arith, one-at-most (sameParent (t .parent) (evaluated t .table .parent)))) (changes-gain-641 t e)
+    (λ k.
+    omega (arith, one-at-most (sameParent (t .parent) (evaluated t .table .parent)), held-cost t e, none-costs-less (markOf (evaluated t .table .parent)) (pathCost (held (evaluated t .table)))))
+    (changes-gain-641 t e)
 
 -- ---- a list
 -- a call keeps a table that is not refused so
@@ -63,7 +70,10 @@ all-fall t (Forget n ∷ cs) b h = all-fall (after t (Forget n)) cs (kept t (For
 all-fall t (Evaluate ∷ cs) b h =
     let k = both (eligible (held t)) (eachEligible (evaluations (after t Evaluate) cs)) h in
     let b′ = kept t Evaluate b in
-    more (falls t (k .0)) (cost-to (held t) (k .0)) (held-cost-from (evaluated t .table) b′ (eligible-after t b (k .0))) (all-fall (after t Evaluate) cs b′ (k .1))
+    let e = eligible-after t b (k .0) in
+    let hi : heldCost t ≤ 65534 = omega (arith, held-cost t (k .0), cost-to (held t) (k .0)) in
+    let lo : 512 ≤ heldCost (evaluated t .table) = omega (arith, held-cost (evaluated t .table) e, held-cost-from (evaluated t .table) b′ e) in
+    more (falls t (k .0)) hi lo (all-fall (after t Evaluate) cs b′ (k .1))
 
 bound : (vs : List EntryExit) → AllFall vs → 641 * changes vs + lastCost vs ≤ firstCost vs + rises vs
 unfolding changes lastCost firstCost rises
@@ -76,19 +86,19 @@ unfolding firstCost
 first-to [] a = omega arith
 first-to (v ∷ vs) (more p hi lo a) = hi
 
-last-from : (vs : List EntryExit) → any vs ≡ true → AllFall vs → 512 ≤ lastCost vs
-unfolding lastCost any
+last-from : (vs : List EntryExit) → someEvaluation vs ≡ true → AllFall vs → 512 ≤ lastCost vs
+unfolding lastCost someEvaluation
 last-from [] h a = clash false h refl
 last-from (v ∷ []) h (more p hi lo a) = lo
 last-from (v ∷ w ∷ vs) h (more p hi lo a) = last-from (w ∷ vs) refl a
 
 -- ---- the claims
 module _ (t : Table) (cs : List Call) (h : applies t cs ≡ true) where
-  parts : (broken t ≡ false) × (any (evaluations t cs) ≡ true) × (eachEligible (evaluations t cs) ≡ true)
+  parts : (broken t ≡ false) × (someEvaluation (evaluations t cs) ≡ true) × (eachEligible (evaluations t cs) ≡ true)
   unfolding applies
   parts =
-      let k = both (not (broken t)) (any (evaluations t cs) && eachEligible (evaluations t cs)) h in
-      let l = both (any (evaluations t cs)) (eachEligible (evaluations t cs)) (k .1) in
+      let k = both (not (broken t)) (someEvaluation (evaluations t cs) && eachEligible (evaluations t cs)) h in
+      let l = both (someEvaluation (evaluations t cs)) (eachEligible (evaluations t cs)) (k .1) in
       (not-true (broken t) (k .0), l .0, l .1)
 
   fallen : AllFall (evaluations t cs)

@@ -7,11 +7,11 @@ use lib.ListN.{replicate}
 use lib.Dec.{lit<}
 use Rattle.octets_spec.specs.Choice.{ifEq, ifLt, ifOn}
 use Rattle.nbr_metric_spec.specs.Metric.{blank, eligible, increment, pathCost}
-use Rattle.nbr_table_spec.specs.Places.{bestOf, better, changeFirst, firstOf, free, named, nearer, nonzero, some, twice, unfit}
+use Rattle.nbr_table_spec.specs.Places.{bestOf, better, changeFirst, firstOf, free, named, lesser, nonzero, somePlace, twice, unfit}
 use Rattle.nbr_table_spec.specs.declared.Parent.the-variants.{Held}
 use Rattle.nbr_table_spec.specs.declared.Table.{Table}
-use Rattle.nbr_table_spec.specs.Calls.{advertised, parentMissing, broken, chosen, evaluated, heldPlace, sameParent}
-use Rattle.nbr_stability_spec.specs.Stability.{BoundIsMet, Call, Reaches101, after, any, applies, changes, eachEligible, evaluations, firstCost, lastCost, rises}
+use Rattle.nbr_table_spec.specs.Calls.{advertised, parentMissing, broken, chosen, evaluated, heldPlace, idOf, markOf, sameParent}
+use Rattle.nbr_stability_spec.specs.Stability.{BoundIsMet, Call, Reaches101, after, someEvaluation, applies, changes, callFits, eachEligible, evaluations, firstCost, bothFit, lastCost, placeFits, placesFit, rises, tableFits}
 use Rattle.nbr_stability_spec.specs.Stability.Call.{Advertise, Evaluate}
 
 -- neighbours 1 and 2 with one attempt, acknowledged, so that their costs are their ranks and 256; neighbour 1 is held
@@ -29,10 +29,10 @@ descent (suc k) rank a b = Advertise a (rank - 641) ∷ Evaluate ∷ descent k (
 
 -- 1408 held, 767 best: changed, then the new parent's cost rises by 100; and a descent from 65534 to 793
 both-run : BoundIsMet × Reaches101
-unfolding evaluations after applies any eachEligible changes rises firstCost lastCost sameParent advertised evaluated chosen broken parentMissing heldPlace bestOf better nearer changeFirst firstOf free named nonzero some twice unfit eligible pathCost increment ifEq ifLt ifOn
+unfolding placeFits placesFit tableFits callFits bothFit evaluations after applies someEvaluation eachEligible changes rises firstCost lastCost markOf idOf sameParent advertised evaluated chosen broken parentMissing heldPlace bestOf better lesser changeFirst firstOf free named nonzero somePlace twice unfit eligible pathCost increment ifEq ifLt ifOn
 both-run = (
-  (pair 1152 511, Evaluate ∷ Advertise 2 611 ∷ Evaluate ∷ [], refl, (lit< tt, lit< tt, refl)),
-  (pair 65278 65278, descent 101 65278 2 1, refl, refl, refl),
+  (pair 1152 511, Evaluate ∷ Advertise 2 611 ∷ Evaluate ∷ [], refl, refl, (lit< tt, lit< tt, refl)),
+  (pair 65278 65278, descent 101 65278 2 1, refl, refl, refl, refl),
 )
 
 pub bound-is-met : BoundIsMet

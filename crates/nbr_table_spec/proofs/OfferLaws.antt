@@ -25,10 +25,10 @@ use Rattle.nbr_table_spec.specs.declared.Settlement.{Settlement}
 use Rattle.nbr_table_spec.specs.declared.Sought.{Sought}
 use Rattle.nbr_table_spec.specs.declared.Survey.{Survey}
 use Rattle.nbr_table_spec.specs.declared.Table.{Table}
-use Rattle.nbr_table_spec.specs.Places.{best, bestOf, better, firstOf, named, nearer}
+use Rattle.nbr_table_spec.specs.Places.{best, bestOf, better, firstOf, named, lesser}
 use Rattle.nbr_table_spec.specs.Calls.{broken, choice, choiceOf, chosen, evaluated, evaluation, heldPlace, idOf, markOf, withParent}
 use Rattle.nbr_table_spec.specs.Offers.{lower, lowest, offerOf, settlement, sought, surveyed}
-use Rattle.nbr_table_spec.proofs.PlaceLaws.{clash, better-both, better-new, better-old, nearer-cost, nearer-held, nearer-id, nearer-tie}
+use Rattle.nbr_table_spec.proofs.PlaceLaws.{clash, better-both, better-new, better-old, lesser-id, lesser-kept, lesser-key, lesser-tie}
 use Rattle.nbr_table_spec.proofs.CallLaws.{chosen-best, chosen-change, chosen-keep, chosen-none, evaluated-broken, evaluated-done}
 
 -- ---- the lower of two offers
@@ -55,7 +55,7 @@ abbrev Kept : Place → Type 0
 Kept b = (eligible b ≡ true) ⊎ (b ≡ blank)
 
 module _ (b p : Place) where
-  lower-better : Kept b → (lower (offerOf b) (offerOf p) ≡ offerOf (better b p)) × Kept (better b p)
+  lower-better : Kept b → (lower (offerOf b) (offerOf p) ≡ offerOf (better eligible pathCost b p)) × Kept (better eligible pathCost b p)
   lower-better k =
       by-test (eligible p)
       (λ e.
@@ -63,24 +63,24 @@ module _ (b p : Place) where
       by-test (eligible b)
       (λ f.
       let w = offer-eligible b f in
-      let give : (z : Place) → eligible z ≡ true → z ≡ nearer b p → offerOf z ≡ lower (offerOf b) (offerOf p) → (lower (offerOf b) (offerOf p) ≡ offerOf (better b p)) × Kept (better b p) =
-      (λ z g n o. let m = better-both b p (eligible p) (eligible b) z refl e refl f n in (sym o ∙ ap offerOf m, inl (subst (λ (y : Place). eligible y ≡ true) m g))) in
+      let give : (z : Place) → eligible z ≡ true → z ≡ lesser pathCost b p → offerOf z ≡ lower (offerOf b) (offerOf p) → (lower (offerOf b) (offerOf p) ≡ offerOf (better eligible pathCost b p)) × Kept (better eligible pathCost b p) =
+      (λ z g n o. let m = better-both eligible pathCost b p z e f n in (sym o ∙ ap offerOf m, inl (subst (λ (y : Place). eligible y ≡ true) m g))) in
       by-lt (pathCost p) (pathCost b)
-      (λ l. give p e (nearer-cost b p (pathCost p) (pathCost b) refl refl l) (lower-cost (offerOf b) (offerOf p) (omega arith)))
+      (λ l. give p e (lesser-key pathCost b p l) (lower-cost (offerOf b) (offerOf p) (omega arith)))
       (λ l.
       by-lt (pathCost b) (pathCost p)
-      (λ m. give b f (nearer-held b p (pathCost p) (pathCost b) refl refl l m) (lower-kept (offerOf b) (offerOf p) (omega arith) (omega arith)))
+      (λ m. give b f (lesser-kept pathCost b p l m) (lower-kept (offerOf b) (offerOf p) (omega arith) (omega arith)))
       (λ m.
       by-lt (p .id) (b .id)
-      (λ i. give p e (nearer-id b p (pathCost p) (pathCost b) refl refl l m i) (lower-id (offerOf b) (offerOf p) (omega arith) (omega arith) i))
-      (λ i. give b f (nearer-tie b p (pathCost p) (pathCost b) refl refl l m i) (lower-tie (offerOf b) (offerOf p) (omega arith) (omega arith) i)))))
+      (λ i. give p e (lesser-id pathCost b p l m i) (lower-id (offerOf b) (offerOf p) (omega arith) (omega arith) i))
+      (λ i. give b f (lesser-tie pathCost b p l m i) (lower-tie (offerOf b) (offerOf p) (omega arith) (omega arith) i)))))
       (λ f.
-      let m = better-new b p (eligible p) (eligible b) refl e refl f in
+      let m = better-new eligible pathCost b p e f in
       let w = offer-not b f in
       let t = cost-to p e in
       (sym (lower-cost (offerOf b) (offerOf p) (omega arith)) ∙ ap offerOf m, inl (subst (λ (y : Place). eligible y ≡ true) m e))))
       (λ e.
-      let m = better-old b p (eligible p) (eligible b) refl e in
+      let m = better-old eligible pathCost b p e in
       let v = offer-not p e in (
         ⊎-elim
             (λ f. let w = offer-eligible b f in let t = cost-to b f in sym (lower-kept (offerOf b) (offerOf p) (omega arith) (omega arith)))
@@ -91,10 +91,10 @@ module _ (b p : Place) where
         subst Kept m k,
       ))
 
-lowest-best : (b : Place) (ps : List Place) → Kept b → lowest (offerOf b) ps ≡ offerOf (bestOf b ps)
+lowest-best : (b : Place) (ps : List Place) → Kept b → lowest (offerOf b) ps ≡ offerOf (bestOf eligible pathCost b ps)
 unfolding lowest bestOf
 lowest-best b [] k = refl
-lowest-best b (p ∷ ps) k = let h = lower-better b p k in ap (λ (o : Offer). lowest o ps) (h .0) ∙ lowest-best (better b p) ps (h .1)
+lowest-best b (p ∷ ps) k = let h = lower-better b p k in ap (λ (o : Offer). lowest o ps) (h .0) ∙ lowest-best (better eligible pathCost b p) ps (h .1)
 
 -- ---- the loop: what is left gives what the whole gives
 pub lowest-start : (o : Offer) (ps : List Place) → o ≡ record { cost = 65535; id = 0 } → lowest o ps ≡ offerOf (best ps)

@@ -13,8 +13,8 @@ use borrow.Author.Tests.{ltb-false}
 use Rattle.octets_spec.specs.Choice.{ifOn}
 use Rattle.octets_spec.proofs.ChoiceLaws.{by-test, choices}
 use Rattle.nbr_metric_spec.specs.declared.Place.{Place}
-use Rattle.nbr_metric_spec.specs.Metric.{blank, eligible, pathCost}
-use Rattle.nbr_table_spec.specs.Places.{better, changeFirst, firstOf, free, named, nearer, nonzero, some, unfit}
+use Rattle.nbr_metric_spec.specs.Metric.{blank}
+use Rattle.nbr_table_spec.specs.Places.{better, changeFirst, firstOf, free, named, lesser, nonzero, somePlace, unfit}
 use Rattle.nbr_table_spec.specs.declared.Found.{Found}
 use Rattle.nbr_table_spec.specs.Stores.{first, found}
 
@@ -42,16 +42,16 @@ module _ (p : Place) where
 
 -- ---- walking the places: what is left gives what the whole gives
 module _ (f : Place → Bool) (ps : List Place) (i : ℕ) (w x : Bool) where
-  pub some-next : i < length ps → some f (drop i ps) ≡ w → x ≡ f (getD ps i blank) → x ≡ false → some f (drop (i + 1) ps) ≡ w
-  unfolding some
+  pub some-next : i < length ps → somePlace f (drop i ps) ≡ w → x ≡ f (getD ps i blank) → x ≡ false → somePlace f (drop (i + 1) ps) ≡ w
+  unfolding somePlace
   some-next l h e u = rw add-one (rw (drop-cons ps i blank l, ← e, u) at h)
 
-  pub some-found : i < length ps → some f (drop i ps) ≡ w → x ≡ f (getD ps i blank) → x ≡ true → true ≡ w
-  unfolding some
+  pub some-found : i < length ps → somePlace f (drop i ps) ≡ w → x ≡ f (getD ps i blank) → x ≡ true → true ≡ w
+  unfolding somePlace
   some-found l h e u = rw (drop-cons ps i blank l, ← e, u) at h
 
-pub some-end : (f : Place → Bool) (ps : List Place) (i n : ℕ) (w : Bool) → length ps ≡ n → n ≤ i → some f (drop i ps) ≡ w → false ≡ w
-unfolding some
+pub some-end : (f : Place → Bool) (ps : List Place) (i n : ℕ) (w : Bool) → length ps ≡ n → n ≤ i → somePlace f (drop i ps) ≡ w → false ≡ w
+unfolding somePlace
 some-end f ps i n w e l h = let k : length ps ≤ i = omega arith in rw (drop-of-length-le ps k) at h
 
 -- ---- the walk from the end: the first place from here on
@@ -83,36 +83,36 @@ found-is ps n at unused i e f h =
     (λ j. record { at = a j; unused = b j })
 
 -- ---- the best place
-module _ (b p : Place) (c d : ℕ) (e : c ≡ pathCost p) (f : d ≡ pathCost b) where
-  pub nearer-cost : c < d → p ≡ nearer b p
-  unfolding nearer
-  nearer-cost h = let k : pathCost p < pathCost b = omega arith in search choices
+module _ (key : Place → ℕ) (b p : Place) where
+  pub lesser-key : key p < key b → p ≡ lesser key b p
+  unfolding lesser
+  lesser-key h = search choices
 
-  pub nearer-held : d ≤ c → d < c → b ≡ nearer b p
-  unfolding nearer
-  nearer-held g h = let k : pathCost b < pathCost p = omega arith in let l : pathCost b ≤ pathCost p = omega arith in search choices
+  pub lesser-kept : key b ≤ key p → key b < key p → b ≡ lesser key b p
+  unfolding lesser
+  lesser-kept g h = search choices
 
-  module _ (g : d ≤ c) (h : c ≤ d) where
-    pub nearer-id : p .id < b .id → p ≡ nearer b p
-    unfolding nearer
-    nearer-id i = let k : pathCost b ≤ pathCost p = omega arith in let l : pathCost p ≤ pathCost b = omega arith in search choices
+  module _ (g : key b ≤ key p) (h : key p ≤ key b) where
+    pub lesser-id : p .id < b .id → p ≡ lesser key b p
+    unfolding lesser
+    lesser-id i = search choices
 
-    pub nearer-tie : b .id ≤ p .id → b ≡ nearer b p
-    unfolding nearer
-    nearer-tie i = let k : pathCost b ≤ pathCost p = omega arith in let l : pathCost p ≤ pathCost b = omega arith in search choices
+    pub lesser-tie : b .id ≤ p .id → b ≡ lesser key b p
+    unfolding lesser
+    lesser-tie i = search choices
 
-module _ (b p : Place) (x y : Bool) where
-  pub better-both : (q : Place) → x ≡ eligible p → x ≡ true → y ≡ eligible b → y ≡ true → q ≡ nearer b p → q ≡ better b p
+module _ (test : Place → Bool) (key : Place → ℕ) (b p : Place) where
+  pub better-both : (q : Place) → test p ≡ true → test b ≡ true → q ≡ lesser key b p → q ≡ better test key b p
   unfolding better ifOn
-  better-both q e u f v h = simp (← e, u, ← f, v) h
+  better-both q e f h = simp (e, f) h
 
-  pub better-new : x ≡ eligible p → x ≡ true → y ≡ eligible b → y ≡ false → p ≡ better b p
+  pub better-new : test p ≡ true → test b ≡ false → p ≡ better test key b p
   unfolding better ifOn
-  better-new e u f v = simp (← e, u, ← f, v)
+  better-new e f = simp (e, f)
 
-  pub better-old : x ≡ eligible p → x ≡ false → b ≡ better b p
+  pub better-old : test p ≡ false → b ≡ better test key b p
   unfolding better ifOn
-  better-old e u = simp (← e, u)
+  better-old e = simp e
 
 -- a disjunction that fails, fails in each part
 pub neither : (a b : Bool) → a || b ≡ false → (a ≡ false) × (b ≡ false)
@@ -130,13 +130,13 @@ clash a e f = absurd (let z : _≡_ {A = ℕ} 0 1 = cc in omega arith)
 
 -- ---- what is found by number is what the definitions speak of
 module _ (f : Place → Bool) where
-  pub present : (ps : List Place) → first f ps < length ps → some f ps ≡ true
-  unfolding first some
+  pub present : (ps : List Place) → first f ps < length ps → somePlace f ps ≡ true
+  unfolding first somePlace
   present [] h = absurd (omega arith)
   present (p ∷ ps) h = split (f p) (λ e. rw e) (λ e. rw e (present ps (let k : suc (first f ps) < suc (length ps) = rw e at h in omega arith)))
 
-  pub missing : (ps : List Place) → length ps ≤ first f ps → some f ps ≡ false
-  unfolding first some
+  pub missing : (ps : List Place) → length ps ≤ first f ps → somePlace f ps ≡ false
+  unfolding first somePlace
   missing [] h = refl
   missing (p ∷ ps) h =
       split (f p) (λ e. let k : suc (length ps) ≤ 0 = rw e at h in absurd (omega arith))
@@ -153,11 +153,11 @@ module _ (f : Place → Bool) where
   set-first g (p ∷ ps) = split (f p) (λ e. rw e) (λ e. rw e (ap (λ (l : List Place). p ∷ l) (set-first g ps)))
 
 -- where no place meets a test, none does at any number
-pub none-at : (f : Place → Bool) (ps : List Place) (i : ℕ) → f blank ≡ false → some f ps ≡ false → f (getD ps i blank) ≡ false
-unfolding some
+pub none-at : (f : Place → Bool) (ps : List Place) (i : ℕ) → f blank ≡ false → somePlace f ps ≡ false → f (getD ps i blank) ≡ false
+unfolding somePlace
 none-at f [] i b h = b
-none-at f (p ∷ ps) zero b h = neither (f p) (some f ps) h .0
-none-at f (p ∷ ps) (suc i) b h = none-at f ps i b (neither (f p) (some f ps) h .1)
+none-at f (p ∷ ps) zero b h = neither (f p) (somePlace f ps) h .0
+none-at f (p ∷ ps) (suc i) b h = none-at f ps i b (neither (f p) (somePlace f ps) h .1)
 
 pub fit-limits : (p : Place) → unfit p ≡ false → (p .attempts ≤ 255) × (p .acked ≤ p .attempts)
 unfolding unfit

@@ -16,7 +16,7 @@ use Rattle.nbr_metric_spec.specs.declared.Place.{Place}
 use Rattle.nbr_metric_spec.specs.Metric.{blank}
 use Rattle.nbr_table_spec.specs.declared.Parent.{Parent}
 use Rattle.nbr_table_spec.specs.declared.Parent.the-variants.{None, Held}
-use Rattle.nbr_table_spec.specs.Places.{known, named, some, twice, unfit}
+use Rattle.nbr_table_spec.specs.Places.{known, named, somePlace, twice, unfit}
 use Rattle.nbr_table_spec.specs.Calls.{broken, parentMissing}
 use Rattle.nbr_table_spec.specs.Scan.{among}
 use Rattle.nbr_table_spec.proofs.PlaceLaws.{some-end, some-found, some-next}
@@ -63,7 +63,7 @@ knownOf [] ps = false
 knownOf (x ∷ ids) ps = known x ps || knownOf ids ps
 
 known-of-none : (ids : List ℕ) → knownOf ids [] ≡ false
-unfolding knownOf some
+unfolding knownOf somePlace
 known-of-none [] = refl
 known-of-none (x ∷ ids) = known-of-none ids
 
@@ -80,12 +80,12 @@ swapped false false c d = refl
 
 module _ (p : Place) (ps : List Place) where
   known-of-used : (ids : List ℕ) → p .used ≡ true → knownOf ids (p ∷ ps) ≡ (within (p .id) ids || knownOf ids ps)
-  unfolding knownOf within some named
+  unfolding knownOf within somePlace named
   known-of-used [] u = refl
   known-of-used (x ∷ ids) u = rw (known-of-used ids u, u) (swapped (eqb (p .id) x) (known x ps) (within (p .id) ids) (knownOf ids ps))
 
   known-of-free : (ids : List ℕ) → p .used ≡ false → knownOf ids (p ∷ ps) ≡ knownOf ids ps
-  unfolding knownOf some named
+  unfolding knownOf somePlace named
   known-of-free [] u = refl
   known-of-free (x ∷ ids) u = rw (known-of-free ids u, u)
 
@@ -123,7 +123,7 @@ repeats-is ids (p ∷ ps) =
 
 -- ---- the walk: the first n of ids are the identifiers in use of the first i places, and these break no rule
 pub record Scanned (ids : List ℕ) (n i : ℕ) (ps : List Place) : Type 0 where
-  pub fit : some unfit (drop i ps) ≡ some unfit ps
+  pub fit : somePlace unfit (drop i ps) ≡ somePlace unfit ps
   pub apart : repeats (take n ids) (drop i ps) ≡ twice ps
   pub there : (id : ℕ) → (within id (take n ids) || known id (drop i ps)) ≡ known id ps
   pub few : n ≤ i
@@ -135,14 +135,14 @@ scan-start ids ps = record { fit = refl; apart = repeats-is [] ps; there = λ id
 module _ (ids : List ℕ) (n i : ℕ) (ps : List Place) (s : Scanned ids n i ps) (l : i < length ps) (x : Bool) (e : x ≡ unfit (getD ps i blank)) where
   pub scan-unfit : (q : Parent) → x ≡ true → true ≡ broken (record { places = ps; parent = q })
   unfolding broken
-  scan-unfit q u = rw (← some-found unfit ps i (some unfit ps) x l (s .fit) e u)
+  scan-unfit q u = rw (← some-found unfit ps i (somePlace unfit ps) x l (s .fit) e u)
 
   module _ (u : x ≡ false) where
-    fits : some unfit (drop (i + 1) ps) ≡ some unfit ps
-    fits = some-next unfit ps i (some unfit ps) x l (s .fit) e u
+    fits : somePlace unfit (drop (i + 1) ps) ≡ somePlace unfit ps
+    fits = some-next unfit ps i (somePlace unfit ps) x l (s .fit) e u
 
     pub scan-free : getD ps i blank .used ≡ false → Scanned ids n (i + 1) ps
-    unfolding repeats ifOn some named
+    unfolding repeats ifOn somePlace named
     scan-free f =
         record {
           fit = fits;
@@ -161,10 +161,10 @@ module _ (ids : List ℕ) (n i : ℕ) (ps : List Place) (s : Scanned ids n i ps)
 
       pub scan-twice : (q : Parent) → y ≡ true → true ≡ broken (record { places = ps; parent = q })
       unfolding broken
-      scan-twice q v = let t : true ≡ twice ps = rw v at next in rw (← t) (sym (or-true (some unfit ps)))
+      scan-twice q v = let t : true ≡ twice ps = rw v at next in rw (← t) (sym (or-true (somePlace unfit ps)))
 
       pub scan-used : y ≡ false → Scanned (set ids n (getD ps i blank .id)) (n + 1) (i + 1) ps
-      unfolding some named
+      unfolding somePlace named
       scan-used v =
           let m : n < length ids = omega (arith, s .few) in
           record {
@@ -179,12 +179,12 @@ module _ (ids : List ℕ) (n i : ℕ) (ps : List Place) (s : Scanned ids n i ps)
 
 -- ---- the end of the walk
 module _ (ids : List ℕ) (n i k : ℕ) (ps : List Place) (s : Scanned ids n i ps) (l : length ps ≡ k) (h : k ≤ i) where
-  clear : (some unfit ps ≡ false) × (twice ps ≡ false) × ((id : ℕ) → within id (take n ids) ≡ known id ps)
-  unfolding repeats some
+  clear : (somePlace unfit ps ≡ false) × (twice ps ≡ false) × ((id : ℕ) → within id (take n ids) ≡ known id ps)
+  unfolding repeats somePlace
   clear =
       let m : length ps ≤ i = omega arith in
       let d = drop-of-length-le ps m in
-      (sym (some-end unfit ps i k (some unfit ps) l h (s .fit)), sym (rw d at (s .apart)), λ id. sym (or-false (within id (take n ids))) ∙ (rw d at (s .there id)))
+      (sym (some-end unfit ps i k (somePlace unfit ps) l h (s .fit)), sym (rw d at (s .apart)), λ id. sym (or-false (within id (take n ids))) ∙ (rw d at (s .there id)))
 
   module _ (q : Parent) where
     pub scan-none : q ≡ None → false ≡ broken (record { places = ps; parent = q })

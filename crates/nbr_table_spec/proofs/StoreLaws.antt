@@ -19,7 +19,7 @@ use Rattle.nbr_table_spec.specs.declared.Found.{Found}
 use Rattle.nbr_table_spec.specs.declared.Parent.{Parent}
 use Rattle.nbr_table_spec.specs.declared.Parent.the-variants.{None, Held}
 use Rattle.nbr_table_spec.specs.declared.Table.{Table}
-use Rattle.nbr_table_spec.specs.Places.{changeFirst, free, known, named, nonzero, some, twice, unfit}
+use Rattle.nbr_table_spec.specs.Places.{changeFirst, free, known, named, nonzero, somePlace, twice, unfit}
 use Rattle.nbr_table_spec.specs.Changes.{attempted, newcomer, withRank}
 use Rattle.nbr_table_spec.specs.Calls.{advertised, answer, broken, forgotten, parentMissing, reported, without}
 use Rattle.nbr_table_spec.specs.Stores.{advertising, change, first, forgetting, found, freeIndex, indexOf, refusing, reporting, stored}
@@ -96,10 +96,10 @@ module _ (t : Table) (l : length (t .places) ≡ 32) where
   one-stored : (f : Place → Bool) (g : Place → Place) (q : Parent) → answer 0 (record { places = set (t .places) (first f (t .places)) (g (getD (t .places) (first f (t .places)) blank)); parent = q }) ≡ answer 0 (record { places = changeFirst f g (t .places); parent = q })
   one-stored f g q = ap (λ (ps : List Place). answer 0 (record { places = ps; parent = q })) (set-first f g (t .places))
 
-  some-at : (f : Place → Bool) → first f (t .places) < 32 → some f (t .places) ≡ true
+  some-at : (f : Place → Bool) → first f (t .places) < 32 → somePlace f (t .places) ≡ true
   some-at f w = present f (t .places) (omega arith)
 
-  none-below : (f : Place → Bool) → 32 ≤ first f (t .places) → some f (t .places) ≡ false
+  none-below : (f : Place → Bool) → 32 ≤ first f (t .places) → somePlace f (t .places) ≡ false
   none-below f w = missing f (t .places) (omega arith)
 
   pub advertised-stored : (n rank : ℕ) → stored t (advertising (t .places) n rank) (t .parent) ≡ advertised t n rank
@@ -118,12 +118,12 @@ module _ (t : Table) (l : length (t .places) ≡ 32) where
   module _ (b : broken t ≡ false) where
     all-fit : (i : ℕ) → unfit (getD (t .places) i blank) ≡ false
     unfolding broken unfit free nonzero
-    all-fit i = none-at unfit (t .places) i refl (neither (some unfit (t .places)) (twice (t .places) || parentMissing (t .parent) (t .places)) b .0)
+    all-fit i = none-at unfit (t .places) i refl (neither (somePlace unfit (t .places)) (twice (t .places) || parentMissing (t .parent) (t .places)) b .0)
 
     parent-there : parentMissing (t .parent) (t .places) ≡ false
     unfolding broken
     parent-there =
-        neither (twice (t .places)) (parentMissing (t .parent) (t .places)) (neither (some unfit (t .places)) (twice (t .places) || parentMissing (t .parent) (t .places)) b .1) .1
+        neither (twice (t .places)) (parentMissing (t .parent) (t .places)) (neither (somePlace unfit (t .places)) (twice (t .places) || parentMissing (t .parent) (t .places)) b .1) .1
 
   without-unknown : (n : ℕ) (q : Parent) → parentMissing q (t .places) ≡ false → known n (t .places) ≡ false → without n q ≡ q
   unfolding parentMissing without ifEq

@@ -15,7 +15,7 @@ use Rattle.nbr_table_spec.specs.declared.Table.{Table}
 use Rattle.nbr_table_spec.specs.declared.Answer.{Answer}
 use Rattle.nbr_table_spec.specs.declared.Choice.{Choice}
 use Rattle.nbr_table_spec.specs.declared.Evaluation.{Evaluation}
-use Rattle.nbr_table_spec.specs.Places.{best, changeFirst, firstOf, free, known, named, some, twice, unfit}
+use Rattle.nbr_table_spec.specs.Places.{best, changeFirst, firstOf, free, known, named, somePlace, twice, unfit}
 use Rattle.nbr_table_spec.specs.Changes.{attempted, newcomer, withRank}
 
 -- ---- the table
@@ -38,7 +38,7 @@ parentMissing (Held id) places = not (known id places)
 
 -- a table that breaks a rule: a place does, an identifier stands twice among places in use, or a held parent is not among them
 unfoldable pub broken : Table → Bool
-broken table = some unfit (table .places) || (twice (table .places) || parentMissing (table .parent) (table .places))
+broken table = somePlace unfit (table .places) || (twice (table .places) || parentMissing (table .parent) (table .places))
 
 -- ---- the calls, each first fault first: 8, 10, 11
 -- a call's number and its table
@@ -50,7 +50,7 @@ unfoldable pub advertised : Table → ℕ → ℕ → Answer
 advertised table id rank =
     ifOn (broken table) (answer outOfLimits table)
     (ifOn (known id (table .places)) (answer done (withPlaces table (changeFirst (named id) (withRank rank) (table .places))))
-    (ifOn (some free (table .places)) (answer done (withPlaces table (changeFirst free (λ place. newcomer id rank) (table .places))))
+    (ifOn (somePlace free (table .places)) (answer done (withPlaces table (changeFirst free (λ place. newcomer id rank) (table .places))))
     (answer tableFull table)))
 
 -- 1 to 4 attempts, acknowledged or not
@@ -85,14 +85,14 @@ heldPlace (Held id) places = firstOf (named id) places
 abbrev pub held : Table → Place
 held table = heldPlace (table .parent) (table .places)
 
--- the held parent's path cost
-abbrev pub heldCost : Table → ℕ
-heldCost table = pathCost (held table)
-
 -- whether a parent is held
 unfoldable pub markOf : Parent → Bool
 markOf None = false
 markOf (Held id) = true
+
+-- the held parent's path cost, 0 for none
+abbrev pub heldCost : Table → ℕ
+heldCost table = ifOn (markOf (table .parent)) (pathCost (held table)) 0
 
 -- the held parent's identifier, 0 for none
 unfoldable pub idOf : Parent → ℕ

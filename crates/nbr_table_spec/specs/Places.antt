@@ -18,9 +18,9 @@ unfoldable pub named : ℕ → Place → Bool
 named id place = place .used && eqb (place .id) id
 
 -- some place passes the test
-unfoldable pub some : (Place → Bool) → List Place → Bool
-some test [] = false
-some test (place ∷ places) = test place || some test places
+unfoldable pub somePlace : (Place → Bool) → List Place → Bool
+somePlace test [] = false
+somePlace test (place ∷ places) = test place || somePlace test places
 
 -- the lowest-numbered place that passes the test, and the blank place if none does
 unfoldable pub firstOf : (Place → Bool) → List Place → Place
@@ -34,7 +34,7 @@ changeFirst test change (place ∷ places) = cond (test place) (change place ∷
 
 -- the neighbour is in the table
 abbrev pub known : ℕ → List Place → Bool
-known id places = some (named id) places
+known id places = somePlace (named id) places
 
 -- ---- which places break a rule
 -- a place is not all zero
@@ -50,20 +50,20 @@ unfoldable pub twice : List Place → Bool
 twice [] = false
 twice (place ∷ places) = (place .used && known (place .id) places) || twice places
 
--- ---- the best place
--- the better of two that are eligible: least cost, then lower identifier
-unfoldable pub nearer : Place → Place → Place
-nearer kept place = ifLt (pathCost place) (pathCost kept) place (ifLt (pathCost kept) (pathCost place) kept (ifLt (place .id) (kept .id) place kept))
+-- ---- the best place, among those that pass a test, by a key
+-- of two: the one of lesser key, then of lower identifier
+unfoldable pub lesser : (Place → ℕ) → Place → Place → Place
+lesser key kept place = ifLt (key place) (key kept) place (ifLt (key kept) (key place) kept (ifLt (place .id) (kept .id) place kept))
 
--- the better of two: the eligible one, and the one kept so far if neither is
-unfoldable pub better : Place → Place → Place
-better kept place = ifOn (eligible place) (ifOn (eligible kept) (nearer kept place) place) kept
+-- the better of two: the one that passes the test, and the one kept so far if neither does
+unfoldable pub better : (Place → Bool) → (Place → ℕ) → Place → Place → Place
+better test key kept place = ifOn (test place) (ifOn (test kept) (lesser key kept place) place) kept
 
 -- the best of the places and the one kept so far
-unfoldable pub bestOf : Place → List Place → Place
-bestOf kept [] = kept
-bestOf kept (place ∷ places) = bestOf (better kept place) places
+unfoldable pub bestOf : (Place → Bool) → (Place → ℕ) → Place → List Place → Place
+bestOf test key kept [] = kept
+bestOf test key kept (place ∷ places) = bestOf test key (better test key kept place) places
 
--- the best place, and the blank place if none is eligible
+-- the best place: the eligible one of least cost, then of lower identifier, and the blank place if none is eligible
 abbrev pub best : List Place → Place
-best places = bestOf blank places
+best places = bestOf eligible pathCost blank places

@@ -7,9 +7,9 @@ use Rattle.octets_spec.specs.Choice.{ifOn, ifLt, ifEq}
 use Rattle.slot_spec.specs.Hopping.{channelOf}
 use Rattle.nbr_metric_spec.specs.Metric.{increment, pathCost, eligible}
 use Rattle.nbr_metric_spec.specs.JoinMetric.{joinMetric}
-use Rattle.nbr_table_spec.specs.Places.{free, named, some, firstOf, nonzero, unfit, twice, nearer, better, bestOf}
+use Rattle.nbr_table_spec.specs.Places.{free, named, somePlace, firstOf, changeFirst, nonzero, unfit, twice, lesser, better, bestOf}
 use Rattle.nbr_table_spec.specs.Changes.{attempted}
-use Rattle.nbr_table_spec.specs.Calls.{parentMissing, broken, heldPlace, chosen, evaluated}
+use Rattle.nbr_table_spec.specs.Calls.{parentMissing, broken, heldPlace, markOf, idOf, chosen, reported, evaluated}
 use Rattle.values_spec.specs.Values.{Worked, workedValues, AllHold, Values}
 
 abbrev test : List Worked → Bool
@@ -29,5 +29,5 @@ hold [] t = tt
 hold (r ∷ rs) t = (eqb→eq (r .is) (r .wants) (left (eqb (r .is) (r .wants)) (test rs) t), hold rs (right (eqb (r .is) (r .wants)) (test rs) t))
 
 pub values-hold : Values
-unfolding ifOn ifLt ifEq channelOf increment pathCost eligible joinMetric free named some firstOf nonzero unfit twice nearer better bestOf attempted parentMissing broken heldPlace chosen evaluated
+unfolding ifOn ifLt ifEq channelOf increment pathCost eligible joinMetric free named somePlace firstOf changeFirst nonzero unfit twice lesser better bestOf attempted parentMissing broken heldPlace markOf idOf chosen reported evaluated
 values-hold = hold workedValues tt

@@ -4,16 +4,14 @@ use Prim.Native.Nat.{ℕ, _-_, _^_}
 use mathlib.Core.Path.{_≡_}
 use mathlib.Core.Bool.{Bool, true, false, cond}
 use mathlib.Core.List.{List, [], _∷_}
-use lib.ListN.{replicate}
+use lib.ListN.{getD, replicate}
 use Rattle.refusal.specs.Refusal.{done, outOfLimits}
 use Rattle.slot_spec.specs.Hopping.{channelOf}
 use Rattle.nbr_metric_spec.specs.Metric.{blank, increment, eligible}
 use Rattle.nbr_metric_spec.specs.JoinMetric.{joinMetric}
 use Rattle.nbr_metric_spec.specs.declared.Place.{Place}
-use Rattle.nbr_table_spec.specs.Changes.{attempted}
-use Rattle.nbr_table_spec.specs.Calls.{evaluated}
+use Rattle.nbr_table_spec.specs.Calls.{evaluated, idOf, markOf, reported}
 use Rattle.nbr_table_spec.specs.declared.Table.{Table}
-use Rattle.nbr_table_spec.specs.declared.Parent.{Parent}
 use Rattle.nbr_table_spec.specs.declared.Parent.the-variants.{None, Held}
 
 -- a neighbour in use, with rank, attempts and acknowledged ones
@@ -24,10 +22,9 @@ neighbour id rank attempts acked = record { id = id; rank = rank; attempts = att
 abbrev pub between : ℕ → ℕ → Table
 between heldAt otherAt = record { places = neighbour 1 (heldAt - 256) 1 1 ∷ neighbour 2 (otherAt - 256) 1 1 ∷ replicate 30 blank; parent = Held 1 }
 
--- the parent that an evaluation leaves held, as a number, 0 for none
-abbrev pub parentOf : Parent → ℕ
-parentOf None = 0
-parentOf (Held id) = id
+-- a table with one neighbour, in its first place, and no parent
+abbrev pub oneNeighbour : Place → Table
+oneNeighbour place = record { places = place ∷ replicate 31 blank; parent = None }
 
 -- two numbers that must be the same: what a definition gives, and what the value is
 pub record Worked : Type 0 where
@@ -55,9 +52,15 @@ workedValues =
     ∷ worked (oneIf (eligible (neighbour 1 256 12 3))) 0
     ∷ worked (oneIf (eligible (neighbour 1 256 1 0))) 0
     ∷ worked (oneIf (eligible (neighbour 1 256 0 0))) 0
-    -- cost 1408 held: kept against 768, changed for 767
-    ∷ worked (parentOf (evaluated (between 1408 768) .table .parent)) 1
-    ∷ worked (parentOf (evaluated (between 1408 767) .table .parent)) 2
+    -- cost 1408 held: kept against 768, changed for 767; the own rank is the cost of the parent that is held then
+    ∷ worked (evaluated (between 1408 768) .number) done
+    ∷ worked (oneIf (markOf (evaluated (between 1408 768) .table .parent))) 1
+    ∷ worked (idOf (evaluated (between 1408 768) .table .parent)) 1
+    ∷ worked (evaluated (between 1408 768) .rank) 1408
+    ∷ worked (evaluated (between 1408 767) .number) done
+    ∷ worked (oneIf (markOf (evaluated (between 1408 767) .table .parent))) 1
+    ∷ worked (idOf (evaluated (between 1408 767) .table .parent)) 2
+    ∷ worked (evaluated (between 1408 767) .rank) 767
     -- join metrics: ranks 256 and 2816; ranks 255 and 65535 are refused
     ∷ worked (joinMetric 256 .number) done
     ∷ worked (joinMetric 256 .metric) 0
@@ -69,9 +72,10 @@ workedValues =
     ∷ worked (channelOf 11 0) 13
     ∷ worked (channelOf (2 ^ 40 - 1) 0) 21
     ∷ worked (channelOf (2 ^ 40 - 1) 1) 16
-    -- 1 of 255, one failed attempt: halved first
-    ∷ worked (attempted 1 false (neighbour 1 256 255 1) .attempts) 128
-    ∷ worked (attempted 1 false (neighbour 1 256 255 1) .acked) 0
+    -- 1 of 255, one failed attempt reported: halved first
+    ∷ worked (reported (oneNeighbour (neighbour 1 256 255 1)) 1 1 false .number) done
+    ∷ worked (getD (reported (oneNeighbour (neighbour 1 256 255 1)) 1 1 false .table .places) 0 blank .attempts) 128
+    ∷ worked (getD (reported (oneNeighbour (neighbour 1 256 255 1)) 1 1 false .table .places) 0 blank .acked) 0
     ∷ []
 
 -- every value holds

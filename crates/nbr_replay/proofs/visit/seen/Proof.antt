@@ -7,8 +7,8 @@ use Rattle.nbr_replay.proofs.visit.seen.Tie as tie
 change-requires : tie.Need-change-requires
 change-requires c κs = search needs
 
-path-cost-requires : tie.Need-path-cost-requires
-path-cost-requires c κs = search needs
+entry-of-requires : tie.Need-entry-of-requires
+entry-of-requires c κs = search needs
 
 exit-of-requires : tie.Need-exit-of-requires
 exit-of-requires c κs = search needs
@@ -22,4 +22,4 @@ returns c = search (needs, visitWays)
 pub seen-spec : {M : Type 1} → statement M
 seen-spec =
     tie.close
-    (tie.spec change-requires path-cost-requires exit-of-requires eligible-requires returns)
+    (tie.spec change-requires entry-of-requires exit-of-requires eligible-requires returns)
