@@ -12,4 +12,5 @@ pub mod FormReadLaws
 pub mod NetworkLaws
 pub mod NetworkRecord
 pub mod HeaderNumbers
+pub mod Bounded
 pub mod Witnessed

@@ -1,5 +1,5 @@
 -- What holds of reading every list of bytes (docs/RULES.md, The order of checks). Assumes nothing.
-use Prim.Native.Nat.{ℕ, _<_, _≤_, _^_}
+use Prim.Native.Nat.{ℕ, _-_, _*_, _<_, _≤_, _^_}
 use mathlib.Core.Path.{_≡_}
 use mathlib.Core.List.{List}
 use mathlib.Core.Logic.{_⊎_}
@@ -7,6 +7,8 @@ use lib.ListN.{length, getD}
 use Rattle.octets_spec.specs.Number.{leAt}
 use Rattle.refusal.specs.Refusal.{addressing, done, frameTooLong, secured, wrongType}
 use Rattle.mac_header_spec.specs.Control.{beaconType, broadcast, controlOf, offsetsOf, shortMode, version2015}
+use Rattle.ie_walk_spec.specs.Walk.{headerGo, outerGo}
+use Rattle.ie_walk_spec.specs.declared.Walk.{Walk}
 use Rattle.eb_record_spec.specs.Record.{blankLink}
 use Rattle.eb_read_spec.specs.Read.{readFrame}
 
@@ -70,3 +72,10 @@ AcceptedMayBeDecidedOn =
     × (1 ≤ beacon .slotframe .size)
     × ((i : ℕ) → i < beacon .slotframe .count → getD (beacon .slotframe .links) i blankLink .timeslot < beacon .slotframe .size)
     × (Bytes s → beacon .synchronization .asn < 2 ^ 40)
+
+-- the bound of the lists does not matter: all that are large enough give the same
+abbrev pub BoundsDoNotMatter : Type 0
+BoundsDoNotMatter =
+    (s : List ℕ) (at end one other : ℕ) →
+    ((skipped : ℕ) → end - at < one → end - at < other → headerGo one s at end skipped ≡ headerGo other s at end skipped)
+    × ((walk : Walk) → 2 * (end - at) < one → 2 * (end - at) < other → outerGo one s at end walk ≡ outerGo other s at end walk)

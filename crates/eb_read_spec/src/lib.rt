@@ -1,7 +1,7 @@
 // What reading a frame gives: its number, its record, and where its elements are. Definitions (specs/) of each field from its bytes
 // (Decode), of the checks (Read), of the form without enums (Form) and of the network ID (Network), and theorems about every list of
 // bytes (Claims, Inside, Network).
-ghost use Rattle.eb_read_spec.specs.Claims.{AcceptedMayBeDecidedOn, FiveIsTheAddressing, FourIsSecurity, NumbersTo8, OneIsTheLength, ThreeIsTheType};
+ghost use Rattle.eb_read_spec.specs.Claims.{AcceptedMayBeDecidedOn, BoundsDoNotMatter, FiveIsTheAddressing, FourIsSecurity, NumbersTo8, OneIsTheLength, ThreeIsTheType};
 ghost use Rattle.eb_read_spec.specs.Inside.{AcceptedLiesInside};
 ghost use Rattle.eb_read_spec.specs.Network.{NetworkIsTheRecords, NetworkLiesInside};
 ghost use Rattle.eb_read_spec.specs.Witnesses.{ShortestIsRead, SomeFrameIsAccepted, SomeFrameHasJoiningInformation, EachNumberIsGiven};
@@ -46,6 +46,7 @@ pub fn theorems()
     ensures three_is_the_type { λ _. ⌜ ThreeIsTheType ⌝ }
     ensures four_is_security { λ _. ⌜ FourIsSecurity ⌝ }
     ensures five_is_the_addressing { λ _. ⌜ FiveIsTheAddressing ⌝ }
+    ensures bounds_do_not_matter { λ _. ⌜ BoundsDoNotMatter ⌝ }
     ensures accepted_may_be_decided_on { λ _. ⌜ AcceptedMayBeDecidedOn ⌝ }
     ensures accepted_lies_inside { λ _. ⌜ AcceptedLiesInside ⌝ }
     ensures network_lies_inside { λ _. ⌜ NetworkLiesInside ⌝ }
