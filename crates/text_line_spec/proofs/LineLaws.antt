@@ -7,7 +7,7 @@ use native.Mathlib.Nat.{pow-suc, one-le-pow, add-zero}
 use native.Mathlib.Omega.{arith}
 use lib.Dec.{lit<, lit≤}
 use lib.ListN.{length, getD, set, take, drop, length-append, drop-of-length-le}
-use lib.Seq.{sets, sets-eq, take-at, drop-at, length-take-le}
+use lib.Seq.{sets, sets-eq, length-take-le}
 use Rattle.octets_spec.specs.Number.{stored}
 use Rattle.octets_spec.proofs.PutLaws.{put-next}
 use Rattle.octets_spec.proofs.ChoiceLaws.{if-lt, if-ge, if-eq, if-ne, by-lt}
@@ -16,7 +16,7 @@ use Rattle.eb_read_spec.specs.declared.ReadAnswer.{ReadAnswer}
 use Rattle.eb_read_spec.specs.Read.{readFrame}
 use Rattle.io.specs.Counts.{Counts}
 use Rattle.io.specs.Digits.{digits, Fewest}
-use Rattle.text_line_spec.specs.Line.{widthGo, decimal, newline, asnName, metricName, sizeName, linksName, refusedName, field, synchronizationText, slotframeText, acceptedText, refusedText, lineOf, PartPut}
+use Rattle.text_line_spec.specs.Line.{widthGo, decimal, newline, asnName, metricName, sizeName, linksName, refusedName, field, synchronizationText, slotframeText, acceptedText, refusedText, lineOf, lineFor, startsWith, PartPut}
 
 -- ---- a number has the fewest digits that hold it
 tenth : (n k : ℕ) → Fewest 10 1 n (suc (suc k)) → (10 ≤ n) × Fewest 10 1 (n / 10) (suc k)
@@ -117,27 +117,34 @@ pub decimal-fits : (d : List ℕ) (buffer at k n : ℕ) → at + 20 ≤ buffer �
 decimal-fits d buffer at k n wide small h long = omega (arith, wide, digits-few n k small h, long)
 
 -- ---- the line: a buffer is too small for it, or it is not
-module _ (buffer : ℕ) where
-  pub small-buffer : (xs line : List ℕ) → 128 ≤ buffer → buffer < 128 → xs ≡ line
-  small-buffer xs line wide small = absurd (omega arith)
+module _ (s frame : List ℕ) (small : length s < 128) where
+  nothing : lineFor (length s) frame ≡ []
+  unfolding lineFor
+  nothing = sym (if-lt _ _ (length s) 128 small refl)
 
-  pub wide-buffer : (r : ℕ) → buffer < 128 → 128 ≤ buffer → r ≡ 0
-  wide-buffer r small wide = absurd (omega arith)
+  pub small-answer : 0 ≡ length (lineFor (length s) frame)
+  small-answer = rw nothing refl
+
+  pub small-buffer : s ≡ startsWith (lineFor (length s) frame) s
+  unfolding startsWith
+  small-buffer = rw nothing refl
+
+pub small-counts : (s : List ℕ) → Counts 0 s
+small-counts s = (omega arith, refl)
 
 module _ (s t xs : List ℕ) (r : ℕ) (put : PartPut s 0 xs t r) (most : r ≤ 128) (wide : 128 ≤ length s) where
-  whole : t ≡ xs ++ drop r s
-  unfolding stored
-  whole =
-      let size : r ≡ length xs = omega (arith, put .offset) in
+  starts : t ≡ startsWith xs s
+  unfolding stored startsWith
+  starts =
       let start : 0 + length xs ≡ length xs = omega arith in
-      let fits : 0 + length xs ≤ length s = omega arith in
-      rw (put .bytes, size) (rw start at (sets-eq xs s 0 fits))
+      let fits : 0 + length xs ≤ length s = omega (arith, put .offset) in
+      rw (put .bytes) (rw start at (sets-eq xs s 0 fits))
 
-  pub line-there : (line : List ℕ) → xs ≡ line → take r t ≡ line
-  line-there line e = rw whole (take-at xs (drop r s) r (omega (arith, put .offset)) ∙ e)
+  pub line-answer : (line : List ℕ) → xs ≡ line → r ≡ length line
+  line-answer line e = rw (← e) (omega (arith, put .offset))
 
-  pub line-behind : drop r t ≡ drop r s
-  line-behind = rw whole (drop-at xs (drop r s) r (omega (arith, put .offset)))
+  pub line-buffer : (line : List ℕ) → xs ≡ line → t ≡ startsWith line s
+  line-buffer line e = rw (← e) starts
 
   within : r ≤ length t
   within = omega (arith, put .size)
@@ -145,13 +152,13 @@ module _ (s t xs : List ℕ) (r : ℕ) (put : PartPut s 0 xs t r) (most : r ≤ 
   pub line-counts : Counts r t
   line-counts = (within, sym (length-take-le r t within))
 
-module _ (s : List ℕ) (a : ReadAnswer) (e : a ≡ readFrame s) where
-  pub line-refused : (a .number ≡ 0 → ⊥) → refusedText (a .number) ≡ lineOf (readFrame s)
-  unfolding lineOf
-  line-refused bad = rw (← e) (if-ne _ _ _ _ bad refl)
+module _ (room : ℕ) (wide : 128 ≤ room) (s : List ℕ) (a : ReadAnswer) (e : a ≡ readFrame s) where
+  pub line-refused : (a .number ≡ 0 → ⊥) → refusedText (a .number) ≡ lineFor room s
+  unfolding lineOf lineFor
+  line-refused bad = if-ge _ _ room 128 wide (rw (← e) (if-ne _ _ _ _ bad refl))
 
-  pub line-accepted : a .number ≡ 0 → acceptedText (a .beacon) ≡ lineOf (readFrame s)
-  unfolding lineOf
-  line-accepted good = rw (← e) (if-eq _ _ _ _ good refl)
+  pub line-accepted : a .number ≡ 0 → acceptedText (a .beacon) ≡ lineFor room s
+  unfolding lineOf lineFor
+  line-accepted good = if-ge _ _ room 128 wide (rw (← e) (if-eq _ _ _ _ good refl))
 
-pub ruleset lines = (field-put, decimal-put, decimal-most, decimal-fits, synchronization-put, refused-put, accepted-put, slotframe-put, line-there, line-behind, line-counts, line-refused, line-accepted)
+pub ruleset lines = (field-put, decimal-put, decimal-most, decimal-fits, synchronization-put, refused-put, accepted-put, slotframe-put, small-answer, small-buffer, small-counts, line-answer, line-buffer, line-counts, line-refused, line-accepted)

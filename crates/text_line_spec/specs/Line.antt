@@ -2,12 +2,13 @@
 use Prim.Native.Nat.{ℕ, zero, suc, _+_, _/_}
 use mathlib.Core.Path.{_≡_}
 use mathlib.Core.List.{List, [], _∷_, _++_}
-use lib.ListN.{length}
+use lib.ListN.{length, drop}
 use Rattle.octets_spec.specs.Choice.{ifLt, ifEq}
 use Rattle.octets_spec.specs.Number.{stored}
 use Rattle.refusal.specs.Refusal.{done}
 use Rattle.eb_record_spec.specs.declared.Beacon.{Beacon}
 use Rattle.eb_read_spec.specs.declared.ReadAnswer.{ReadAnswer}
+use Rattle.eb_read_spec.specs.Read.{readFrame}
 use Rattle.io.specs.Digits.{digits}
 
 -- how many decimal digits a number has; the bound only has to be large enough
@@ -66,6 +67,14 @@ refusedText number = field refusedName number ++ newline
 -- the line of a reading, with its newline
 unfoldable pub lineOf : ReadAnswer → List ℕ
 lineOf answer = ifEq (answer .number) done (acceptedText (answer .beacon)) (refusedText (answer .number))
+
+-- what a frame puts into a buffer of some length: its line, and nothing into a buffer of under 128 bytes
+unfoldable pub lineFor : ℕ → List ℕ → List ℕ
+lineFor room frame = ifLt room 128 [] (lineOf (readFrame frame))
+
+-- a buffer that begins with a text, and is behind it as it was
+unfoldable pub startsWith : List ℕ → List ℕ → List ℕ
+startsWith text buffer = text ++ drop (length text) buffer
 
 -- a part of the line was put into a buffer from an offset on: the buffer then, and the offset behind the part
 pub record PartPut (buffer : List ℕ) (at : ℕ) (part : List ℕ) (after : List ℕ) (next : ℕ) : Type 0 where
