@@ -198,3 +198,27 @@ fn output_that_cannot_be_written() {
     assert_eq!(String::from_utf8_lossy(&closed.stdout), "");
     assert_eq!(String::from_utf8_lossy(&closed.stderr), "bench: standard output: Bad file descriptor\n");
 }
+
+/// The example of docs/PROGRAMS.md: behind `$` a command, and under it what it prints.
+#[test]
+fn the_example_of_the_document() {
+    let document = std::fs::read_to_string(in_repository("docs/PROGRAMS.md")).expect("the document is there");
+    let mut lines = document.lines().peekable();
+    let mut tried = 0;
+    while let Some(line) = lines.next() {
+        let Some(command) = line.strip_prefix("    $ ") else { continue };
+        let mut expected = String::new();
+        while let Some(printed) = lines.next_if(|line| line.starts_with("    ") && !line.starts_with("    $ ")) {
+            expected += printed.trim_start();
+            expected.push('\n');
+        }
+        let output = Command::new("sh")
+            .args(["-c", &format!("{{ {command}; }} 2>&1")])
+            .current_dir(in_repository("."))
+            .output()
+            .expect("the shell runs");
+        assert_eq!(String::from_utf8_lossy(&output.stdout), expected, "{command}");
+        tried += 1;
+    }
+    assert!(tried >= 7, "{tried} commands");
+}
