@@ -4,28 +4,22 @@ ghost use mathlib.Core.Path.{_≡_};
 ghost use Prim.Native.Nat.{_+_, _≤_};
 ghost use lib.ListN.{length};
 ghost use Rattle.io.specs.Counts.{Counts};
-ghost use Rattle.text_line_spec.specs.Line.{decimal, field, synchronizationText, slotframeText, acceptedText, refusedText, lineFor, startsWith, PartPut};
+ghost use Rattle.text_put_spec.specs.Text.{decimal};
+ghost use Rattle.text_line_spec.specs.Line.{field, synchronizationText, slotframeText, acceptedText, refusedText, lineFor, startsWith, PartPut};
 
 // Each of these puts a part of the line from an offset on, and answers the offset behind it.
 fn put_text(buffer: &mut [u8], at: usize, text: &[u8]) -> usize
     requires { ⌜ at + length (now text) ≤ length (now buffer) ⌝ }
     ensures { λ r. ⌜ PartPut (now (buffer .entry)) at (now (text .entry)) (now (buffer .exit)) r ⌝ }
 {
-    let mut i = 0;
-    while i < text.len() {
-        buffer[at + i] = text[i];
-        i += 1;
-    }
-    at + i
+    text_put::text(buffer, at, text)
 }
 
 fn put_decimal(buffer: &mut [u8], at: usize, value: u64) -> usize
     requires { ⌜ at + 20 ≤ length (now buffer) ⌝ }
     ensures { λ r. ⌜ PartPut (now (buffer .entry)) at (decimal value) (now (buffer .exit)) r × (r ≤ at + 20) ⌝ }
 {
-    let mut digits = [0u8; 20];
-    let count = io::decimal(value, &mut digits);
-    put_text(buffer, at, &digits[..count])
+    text_put::decimal(buffer, at, value)
 }
 
 fn put_field(buffer: &mut [u8], at: usize, name: &[u8], value: u64) -> usize

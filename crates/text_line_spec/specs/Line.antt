@@ -1,5 +1,5 @@
 -- The line of text that a reading is printed as, as bytes in ASCII (docs/RULES.md, The printed line). Assumes nothing.
-use Prim.Native.Nat.{ℕ, zero, suc, _+_, _/_}
+use Prim.Native.Nat.{ℕ, _+_}
 use mathlib.Core.Path.{_≡_}
 use mathlib.Core.List.{List, [], _∷_, _++_}
 use lib.ListN.{length, drop}
@@ -9,16 +9,7 @@ use Rattle.refusal.specs.Refusal.{done}
 use Rattle.eb_record_spec.specs.declared.Beacon.{Beacon}
 use Rattle.eb_read_spec.specs.declared.ReadAnswer.{ReadAnswer}
 use Rattle.eb_read_spec.specs.Read.{readFrame}
-use Rattle.io.specs.Digits.{digits}
-
--- how many decimal digits a number has; the bound only has to be large enough
-unfoldable pub widthGo : ℕ → ℕ → ℕ
-widthGo zero number = 0
-widthGo (suc bound) number = ifLt number 10 1 (widthGo bound (number / 10) + 1)
-
--- a number in decimal: as many digits as it has, so that no zero leads, and `0` for 0
-unfoldable pub decimal : ℕ → List ℕ
-decimal number = digits 10 (widthGo (suc number) number) number
+use Rattle.text_put_spec.specs.Text.{decimal}
 
 -- `asn `
 abbrev pub asnName : List ℕ
