@@ -4,7 +4,7 @@ ghost use mathlib.Core.Path.{_≡_};
 ghost use Prim.Native.Nat.{_+_, _≤_};
 ghost use lib.ListN.{length};
 ghost use Rattle.octets_spec.specs.Number.{stored};
-ghost use Rattle.text_put_spec.specs.Text.{decimal as Text·decimal, hexByte, fitting};
+ghost use Rattle.text_put_spec.specs.Text.{decimal as Text·decimal, hexadecimal, fitting};
 
 // Puts a text that fits, byte by byte.
 fn store(buffer: &mut [u8], at: usize, text: &[u8]) -> usize
@@ -43,12 +43,12 @@ pub fn decimal(buffer: &mut [u8], at: usize, value: u64) -> usize
     text(buffer, at, &digits[..count])
 }
 
-// Puts a byte in hex: two digits in lower case.
-pub fn hex_byte(buffer: &mut [u8], at: usize, value: u8) -> usize
-    ensures answer { λ r. ⌜ r ≡ at + length (fitting (length (now (buffer .entry))) at (hexByte value)) ⌝ }
-    ensures buffer { λ r. ⌜ now (buffer .exit) ≡ stored (now (buffer .entry)) at (fitting (length (now (buffer .entry))) at (hexByte value)) ⌝ }
+// Puts a number in hex, in lower case, with zeros in front up to width digits; a width above 16 counts as 16.
+pub fn hex(buffer: &mut [u8], at: usize, value: u64, width: usize) -> usize
+    ensures answer { λ r. ⌜ r ≡ at + length (fitting (length (now (buffer .entry))) at (hexadecimal width value)) ⌝ }
+    ensures buffer { λ r. ⌜ now (buffer .exit) ≡ stored (now (buffer .entry)) at (fitting (length (now (buffer .entry))) at (hexadecimal width value)) ⌝ }
 {
-    let mut pair = [0u8; 16];
-    let count = io::hex(value as u64, 2, &mut pair);
-    text(buffer, at, &pair[..count])
+    let mut space = [0u8; 16];
+    let count = io::hex(value, width, &mut space);
+    text(buffer, at, &space[..count])
 }

@@ -11,46 +11,70 @@ use Rattle.octets_spec.specs.Number.{stored}
 use Rattle.octets_spec.proofs.PutLaws.{put-next}
 use Rattle.octets_spec.proofs.ChoiceLaws.{if-lt, if-ge, by-lt}
 use Rattle.io.specs.Digits.{glyph, digits, Fewest}
-use Rattle.text_put_spec.specs.Text.{widthGo, decimal, hexByte, fitting}
+use Rattle.text_put_spec.specs.Text.{widthGo, decimal, hexadecimal, fitting}
 
 -- ---- a number has the fewest digits that hold it
-tenth : (n k : ℕ) → Fewest 10 1 n (suc (suc k)) → (10 ≤ n) × Fewest 10 1 (n / 10) (suc k)
-tenth n k h =
-    let less : suc (suc k) - 1 ≡ suc k = omega arith in
-    let same : suc k - 1 ≡ k = omega arith in
-    let least : 10 ^ suc k ≤ n = rw less at (h .2 (omega arith)) in
-    let over : n < 10 ^ suc (suc k) = h .1 in
-    let some : 1 ≤ 10 ^ k = one-le-pow k 10 (lit< tt) in
-    (omega (arith, pow-suc 10 k, least, some), (omega arith, omega (arith, pow-suc 10 (suc k), over), λ more. rw same (omega (arith, pow-suc 10 k, least))))
+-- what the laws below need of a base
+record Base (base : ℕ) : Type 0 where
+  over : (n k : ℕ) → n < base ^ suc k → n / base < base ^ k
+  under : (n k : ℕ) → base ^ suc k ≤ n → base ^ k ≤ n / base
+  many : (n k : ℕ) → base ^ suc k ≤ n → base ≤ n
+  first : (n : ℕ) → n < base ^ 1 → n < base
+  smaller : (n bound : ℕ) → n < suc bound → base ≤ n → n / base < bound
 
-width-is : (bound n k : ℕ) → n < bound → Fewest 10 1 n k → k ≡ widthGo bound n
-unfolding widthGo
-width-is zero n k lt h = absurd (omega arith)
-width-is (suc bound) n zero lt h = absurd (omega (arith, h .0))
-width-is (suc bound) n (suc zero) lt h = if-lt _ _ n 10 (h .1) refl
-width-is (suc bound) n (suc (suc k)) lt h =
-    let next = tenth n k h in
-    let many : 10 ≤ n = next .0 in
-    let rest : suc k ≡ widthGo bound (n / 10) = width-is bound (n / 10) (suc k) (omega arith) (next .1) in
-    if-ge _ _ n 10 many (rw (← rest) (omega arith))
+ten : Base 10
+ten = record {
+  over = λ n k h. omega (arith, pow-suc 10 k, h);
+  under = λ n k h. omega (arith, pow-suc 10 k, h);
+  many = λ n k h. omega (arith, pow-suc 10 k, one-le-pow k 10 (lit< tt), h);
+  first = λ n h. h;
+  smaller = λ n bound h m. omega (arith, h, m);
+}
+
+sixteen : Base 16
+sixteen = record {
+  over = λ n k h. omega (arith, pow-suc 16 k, h);
+  under = λ n k h. omega (arith, pow-suc 16 k, h);
+  many = λ n k h. omega (arith, pow-suc 16 k, one-le-pow k 16 (lit< tt), h);
+  first = λ n h. h;
+  smaller = λ n bound h m. omega (arith, h, m);
+}
+
+module _ (base : ℕ) (is : Base base) where
+  shorter : (n k : ℕ) → Fewest base 1 n (suc (suc k)) → (base ≤ n) × Fewest base 1 (n / base) (suc k)
+  shorter n k h =
+      let less : suc (suc k) - 1 ≡ suc k = omega arith in
+      let same : suc k - 1 ≡ k = omega arith in
+      let least : base ^ suc k ≤ n = rw less at (h .2 (omega arith)) in
+      (is .many n k least, (omega arith, is .over n (suc k) (h .1), λ more. rw same (is .under n k least)))
+
+  width-is : (bound n k : ℕ) → n < bound → Fewest base 1 n k → k ≡ widthGo base bound n
+  unfolding widthGo
+  width-is zero n k lt h = absurd (omega arith)
+  width-is (suc bound) n zero lt h = absurd (omega (arith, h .0))
+  width-is (suc bound) n (suc zero) lt h = if-lt _ _ n base (is .first n (h .1)) refl
+  width-is (suc bound) n (suc (suc k)) lt h =
+      let next = shorter n k h in
+      let rest : suc k ≡ widthGo base bound (n / base) = width-is bound (n / base) (suc k) (is .smaller n bound lt (next .0)) (next .1) in
+      if-ge _ _ n base (next .0) (rw (← rest) (omega arith))
+
+  width-most : (bound n k : ℕ) → n < base ^ suc k → widthGo base bound n ≤ suc k
+  unfolding widthGo
+  width-most zero n k small = omega arith
+  width-most (suc bound) n zero small = let one : 1 ≡ widthGo base (suc bound) n = if-lt _ _ n base (is .first n small) refl in rw (← one) (omega arith)
+  width-most (suc bound) n (suc k) small =
+      by-lt n base
+      (λ lt. let one : 1 ≡ widthGo base (suc bound) n = if-lt _ _ n base lt refl in rw (← one) (omega arith))
+      (λ ge.
+      let rest : widthGo base bound (n / base) ≤ suc k = width-most bound (n / base) k (is .over n (suc k) small) in
+      let more : widthGo base bound (n / base) + 1 ≡ widthGo base (suc bound) n = if-ge _ _ n base ge refl in
+      rw (← more) (omega (arith, rest)))
 
 pub decimal-is : (n k : ℕ) → Fewest 10 1 n k → digits 10 k n ≡ decimal n
 unfolding decimal
-decimal-is n k h = ap (λ (w : ℕ). digits 10 w n) (width-is (suc n) n k (omega arith) h)
+decimal-is n k h = ap (λ (w : ℕ). digits 10 w n) (width-is 10 ten (suc n) n k (omega arith) h)
 
 -- a u64 has at most 20 digits
-width-most : (bound n k : ℕ) → n < 10 ^ suc k → widthGo bound n ≤ suc k
-unfolding widthGo
-width-most zero n k small = omega arith
-width-most (suc bound) n zero small = let one : 1 ≡ widthGo (suc bound) n = if-lt _ _ n 10 (omega (arith, small)) refl in rw (← one) (omega arith)
-width-most (suc bound) n (suc k) small =
-    by-lt n 10
-    (λ lt. let one : 1 ≡ widthGo (suc bound) n = if-lt _ _ n 10 lt refl in rw (← one) (omega arith))
-    (λ ge.
-    let rest : widthGo bound (n / 10) ≤ suc k = width-most bound (n / 10) k (omega (arith, pow-suc 10 (suc k), small)) in
-    let more : widthGo bound (n / 10) + 1 ≡ widthGo (suc bound) n = if-ge _ _ n 10 ge refl in
-    rw (← more) (omega (arith, rest)))
-
 length-digits : (base k n : ℕ) → length (digits base k n) ≡ k
 length-digits base zero n = refl
 length-digits base (suc k) n = omega (arith, length-append (digits base k (n / base)) (glyph (n % base) ∷ []), length-digits base k (n / base))
@@ -60,20 +84,31 @@ most = lit≤ tt
 
 pub decimal-short : (n : ℕ) → n < 18446744073709551616 → length (decimal n) ≤ 20
 unfolding decimal
-decimal-short n small = rw (length-digits 10 (widthGo (suc n) n) n) (width-most (suc n) n 19 (omega (arith, small, most)))
+decimal-short n small = rw (length-digits 10 (widthGo 10 (suc n) n) n) (width-most 10 ten (suc n) n 19 (omega (arith, small, most)))
 
--- a byte has two hex digits
-pub hex-is : (n k : ℕ) → n < 256 → Fewest 16 (min (max 2 1) 16) n k → digits 16 k n ≡ hexByte n
-unfolding hexByte
-hex-is n k small h =
-    let least : 2 ≤ k = h .0 in
-    by-lt 2 k
-    (λ many.
-    let more : ℕ = k - 3 in
-    let size : k - 1 ≡ suc (suc more) = omega arith in
-    let most : 16 ^ suc (suc more) ≤ n = rw size at (h .2 many) in
-    absurd (omega (arith, small, most, pow-suc 16 (suc more), pow-suc 16 more, one-le-pow more 16 (lit< tt))))
-    (λ few. let two : k ≡ 2 = omega arith in ap (λ (w : ℕ). digits 16 w n) two)
+-- a number in hex has its own digits, or as many as it is asked to have at least
+width-some : (n : ℕ) → 1 ≤ widthGo 16 (suc n) n
+unfolding widthGo
+width-some n =
+    by-lt n 16
+    (λ lt. let one : 1 ≡ widthGo 16 (suc n) n = if-lt _ _ n 16 lt refl in rw (← one) (omega arith))
+    (λ ge. let more : widthGo 16 n (n / 16) + 1 ≡ widthGo 16 (suc n) n = if-ge _ _ n 16 ge refl in rw (← more) (omega arith))
+
+hex-width : (n k width : ℕ) → Fewest 16 (min (max width 1) 16) n k → k ≡ max (min width 16) (widthGo 16 (suc n) n)
+hex-width n k width h =
+    by-lt (min (max width 1) 16) k
+    (λ more.
+    let own : k ≡ widthGo 16 (suc n) n = width-is 16 sixteen (suc n) n k (omega arith) (omega arith, h .1, λ _. h .2 more) in
+    omega (arith, own, more))
+    (λ few.
+    let at-least : min (max width 1) 16 ≤ k = h .0 in
+    let size : k ≡ suc (k - 1) = omega arith in
+    let own : widthGo 16 (suc n) n ≤ suc (k - 1) = width-most 16 sixteen (suc n) n (k - 1) (rw size at (h .1)) in
+    omega (arith, own, few, at-least, width-some n))
+
+hex-is : (n k width : ℕ) → Fewest 16 (min (max width 1) 16) n k → digits 16 k n ≡ hexadecimal width n
+unfolding hexadecimal
+hex-is n k width h = ap (λ (w : ℕ). digits 16 w n) (hex-width n k width h)
 
 -- ---- a text put byte by byte: what is left gives what the whole gives
 module _ (buffer text : List ℕ) (at : ℕ) where
@@ -136,11 +171,11 @@ module _ (s d : List ℕ) (at k n : ℕ) (e : take k d ≡ digits 10 k n) (h : F
   pub decimal-buffer : (t : List ℕ) → t ≡ stored s at (fitting (length s) at (take k d)) → t ≡ stored s at (fitting (length s) at (decimal n))
   decimal-buffer t put = let same : take k d ≡ decimal n = e ∙ decimal-is n k h in rw same at put
 
-module _ (s d : List ℕ) (at k n : ℕ) (e : take k d ≡ digits 16 k n) (small : n < 256) (h : Fewest 16 (min (max 2 1) 16) n k) where
-  pub hex-answer : (r : ℕ) → r ≡ at + length (fitting (length s) at (take k d)) → r ≡ at + length (fitting (length s) at (hexByte n))
-  hex-answer r put = let same : take k d ≡ hexByte n = e ∙ hex-is n k small h in rw same at put
+module _ (s d : List ℕ) (at k n width : ℕ) (e : take k d ≡ digits 16 k n) (h : Fewest 16 (min (max width 1) 16) n k) where
+  pub hex-answer : (r : ℕ) → r ≡ at + length (fitting (length s) at (take k d)) → r ≡ at + length (fitting (length s) at (hexadecimal width n))
+  hex-answer r put = let same : take k d ≡ hexadecimal width n = e ∙ hex-is n k width h in rw same at put
 
-  pub hex-buffer : (t : List ℕ) → t ≡ stored s at (fitting (length s) at (take k d)) → t ≡ stored s at (fitting (length s) at (hexByte n))
-  hex-buffer t put = let same : take k d ≡ hexByte n = e ∙ hex-is n k small h in rw same at put
+  pub hex-buffer : (t : List ℕ) → t ≡ stored s at (fitting (length s) at (take k d)) → t ≡ stored s at (fitting (length s) at (hexadecimal width n))
+  hex-buffer t put = let same : take k d ≡ hexadecimal width n = e ∙ hex-is n k width h in rw same at put
 
 pub ruleset texts = (text-start, text-next, text-behind, text-end, long-answer, long-buffer, late-answer, late-buffer, all-answer, all-buffer, decimal-answer, decimal-buffer, hex-answer, hex-buffer)
