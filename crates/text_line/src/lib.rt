@@ -1,32 +1,25 @@
 // The line that a reading is printed as, put into a lent buffer. Each of its numbers has at most the 20 digits of a u64, so that 128
 // bytes hold every line.
 ghost use mathlib.Core.Path.{_≡_};
-ghost use Prim.Native.Nat.{_+_, _<_, _≤_};
-ghost use lib.ListN.{length, take, drop};
-ghost use Rattle.eb_read_spec.specs.Read.{readFrame};
+ghost use Prim.Native.Nat.{_+_, _≤_};
+ghost use lib.ListN.{length};
 ghost use Rattle.io.specs.Counts.{Counts};
-ghost use Rattle.text_line_spec.specs.Line.{decimal, field, synchronizationText, slotframeText, acceptedText, refusedText, lineOf, PartPut};
+ghost use Rattle.text_put_spec.specs.Text.{decimal};
+ghost use Rattle.text_line_spec.specs.Line.{field, synchronizationText, slotframeText, acceptedText, refusedText, lineFor, startsWith, PartPut};
 
 // Each of these puts a part of the line from an offset on, and answers the offset behind it.
 fn put_text(buffer: &mut [u8], at: usize, text: &[u8]) -> usize
     requires { ⌜ at + length (now text) ≤ length (now buffer) ⌝ }
     ensures { λ r. ⌜ PartPut (now (buffer .entry)) at (now (text .entry)) (now (buffer .exit)) r ⌝ }
 {
-    let mut i = 0;
-    while i < text.len() {
-        buffer[at + i] = text[i];
-        i += 1;
-    }
-    at + i
+    text_put::text(buffer, at, text)
 }
 
 fn put_decimal(buffer: &mut [u8], at: usize, value: u64) -> usize
     requires { ⌜ at + 20 ≤ length (now buffer) ⌝ }
     ensures { λ r. ⌜ PartPut (now (buffer .entry)) at (decimal value) (now (buffer .exit)) r × (r ≤ at + 20) ⌝ }
 {
-    let mut digits = [0u8; 20];
-    let count = io::decimal(value, &mut digits);
-    put_text(buffer, at, &digits[..count])
+    text_put::decimal(buffer, at, value)
 }
 
 fn put_field(buffer: &mut [u8], at: usize, name: &[u8], value: u64) -> usize
@@ -77,9 +70,8 @@ fn put_refused(buffer: &mut [u8], number: u8) -> usize
 // Reads a frame, puts its line at the start of the buffer, and answers how many bytes the line has. A buffer of under 128 bytes is left as
 // it is.
 pub fn bench_line(s: &[u8], buffer: &mut [u8]) -> usize
-    ensures line { λ r. ⌜ (128 ≤ length (now (buffer .entry)) → take r (now (buffer .exit)) ≡ lineOf (readFrame (now (s .entry)))) ⌝ }
-    ensures small { λ r. ⌜ (length (now (buffer .entry)) < 128 → r ≡ 0) ⌝ }
-    ensures behind { λ r. ⌜ drop r (now (buffer .exit)) ≡ drop r (now (buffer .entry)) ⌝ }
+    ensures answer { λ r. ⌜ r ≡ length (lineFor (length (now (buffer .entry))) (now (s .entry))) ⌝ }
+    ensures buffer { λ r. ⌜ now (buffer .exit) ≡ startsWith (lineFor (length (now (buffer .entry))) (now (s .entry))) (now (buffer .entry)) ⌝ }
     ensures counts { λ r. ⌜ Counts r (now (buffer .exit)) ⌝ }
 {
     if buffer.len() < 128 {

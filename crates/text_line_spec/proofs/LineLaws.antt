@@ -1,74 +1,38 @@
--- The laws of the line's parts, in the shape in which the code meets them: a number's digits, a text put byte by byte, and parts in
--- a row. Assumes nothing.
-use Prim.Native.Nat.{ℕ, zero, suc, _+_, _-_, _/_, _^_, _<_, _≤_}
+-- The laws of the line's parts, in the shape in which the code meets them: a part that has room, parts in a row, and the whole line. Assumes
+-- nothing.
+use Prim.Native.Nat.{ℕ, suc, _+_, _<_, _≤_}
 use mathlib.Core.Path.{_≡_, refl, sym, _∙_, ap}
 use mathlib.Core.List.{List, [], _∷_, _++_}
-use native.Mathlib.Nat.{pow-suc, one-le-pow, add-zero}
+use native.Mathlib.Nat.{add-zero}
 use native.Mathlib.Omega.{arith}
-use lib.Dec.{lit<, lit≤}
-use lib.ListN.{length, getD, set, take, drop, length-append, drop-of-length-le}
-use lib.Seq.{sets, sets-eq, take-at, drop-at, length-take-le}
+use lib.ListN.{length, set, length-append}
+use lib.Seq.{sets, sets-eq, length-sets, length-take-le}
 use Rattle.octets_spec.specs.Number.{stored}
-use Rattle.octets_spec.proofs.PutLaws.{put-next}
-use Rattle.octets_spec.proofs.ChoiceLaws.{if-lt, if-ge, if-eq, if-ne, by-lt}
+use Rattle.octets_spec.proofs.ChoiceLaws.{if-lt, if-ge, if-eq, if-ne}
 use Rattle.eb_record_spec.specs.declared.Beacon.{Beacon}
 use Rattle.eb_read_spec.specs.declared.ReadAnswer.{ReadAnswer}
 use Rattle.eb_read_spec.specs.Read.{readFrame}
 use Rattle.io.specs.Counts.{Counts}
-use Rattle.io.specs.Digits.{digits, Fewest}
-use Rattle.text_line_spec.specs.Line.{widthGo, decimal, newline, asnName, metricName, sizeName, linksName, refusedName, field, synchronizationText, slotframeText, acceptedText, refusedText, lineOf, PartPut}
+use Rattle.text_put_spec.specs.Text.{decimal, fitting}
+use Rattle.text_put_spec.proofs.TextLaws.{fits, decimal-short}
+use Rattle.text_line_spec.specs.Line.{newline, asnName, metricName, sizeName, linksName, refusedName, field, synchronizationText, slotframeText, acceptedText, refusedText, lineOf, lineFor, startsWith, PartPut}
 
--- ---- a number has the fewest digits that hold it
-tenth : (n k : ℕ) → Fewest 10 1 n (suc (suc k)) → (10 ≤ n) × Fewest 10 1 (n / 10) (suc k)
-tenth n k h =
-    let less : suc (suc k) - 1 ≡ suc k = omega arith in
-    let same : suc k - 1 ≡ k = omega arith in
-    let least : 10 ^ suc k ≤ n = rw less at (h .2 (omega arith)) in
-    let over : n < 10 ^ suc (suc k) = h .1 in
-    let some : 1 ≤ 10 ^ k = one-le-pow k 10 (lit< tt) in
-    (omega (arith, pow-suc 10 k, least, some), (omega arith, omega (arith, pow-suc 10 (suc k), over), λ more. rw same (omega (arith, pow-suc 10 k, least))))
+-- ---- a part that has room: all of it is put
+pub text-part : (s t text : List ℕ) (at r : ℕ) → at + length text ≤ length s → r ≡ at + length (fitting (length s) at text) → t ≡ stored s at (fitting (length s) at text) → PartPut s at text t r
+unfolding stored
+text-part s t text at r wide behind put =
+    let same : text ≡ fitting (length s) at text = fits (length s) at text wide in
+    let bytes : t ≡ sets s at text = rw (← same) at put in
+    record { bytes = bytes; size = ap length bytes ∙ length-sets s at text; offset = rw (← same) at behind }
 
-width-is : (bound n k : ℕ) → n < bound → Fewest 10 1 n k → k ≡ widthGo bound n
-unfolding widthGo
-width-is zero n k lt h = absurd (omega arith)
-width-is (suc bound) n zero lt h = absurd (omega (arith, h .0))
-width-is (suc bound) n (suc zero) lt h = if-lt _ _ n 10 (h .1) refl
-width-is (suc bound) n (suc (suc k)) lt h =
-    let next = tenth n k h in
-    let many : 10 ≤ n = next .0 in
-    let rest : suc k ≡ widthGo bound (n / 10) = width-is bound (n / 10) (suc k) (omega arith) (next .1) in
-    if-ge _ _ n 10 many (rw (← rest) (omega arith))
+module _ (s t : List ℕ) (at r n : ℕ) (wide : at + 20 ≤ length s) (small : n < 18446744073709551616) (behind : r ≡ at + length (fitting (length s) at (decimal n))) (put : t ≡ stored s at (fitting (length s) at (decimal n))) where
+  pub decimal-put : PartPut s at (decimal n) t r
+  decimal-put = text-part s t (decimal n) at r (omega (arith, wide, decimal-short n small)) behind put
 
-pub decimal-is : (n k : ℕ) → Fewest 10 1 n k → digits 10 k n ≡ decimal n
-unfolding decimal
-decimal-is n k h = ap (λ (w : ℕ). digits 10 w n) (width-is (suc n) n k (omega arith) h)
+  pub decimal-most : r ≤ at + 20
+  decimal-most = omega (arith, decimal-put .offset, decimal-short n small)
 
--- a u64 has at most 20 digits
-power-least : (more : ℕ) → 10 ^ 20 ≤ 10 ^ (20 + more)
-power-least zero = lit≤ tt
-power-least (suc more) = let next : 20 + suc more ≡ suc (20 + more) = omega arith in rw next (omega (arith, pow-suc 10 (20 + more), power-least more))
-
-pub digits-few : (n k : ℕ) → n < 18446744073709551616 → Fewest 10 1 n k → k ≤ 20
-digits-few n k small h =
-    by-lt 20 k
-    (λ many.
-    let more : ℕ = k - 21 in
-    let size : k - 1 ≡ 20 + more = omega arith in
-    let least : 10 ^ (20 + more) ≤ n = rw size at (h .2 (omega arith)) in
-    absurd (omega (arith, small, least, power-least more)))
-    (λ few. few)
-
--- ---- a text put byte by byte: what is left gives what the whole gives
-module _ (buffer text : List ℕ) (at : ℕ) where
-  pub text-start : stored buffer (at + 0) (drop 0 text) ≡ stored buffer at text
-  text-start = rw (add-zero at)
-
-  pub text-next : (whole : List ℕ) (i d : ℕ) → i < length text → stored buffer (at + i) (drop i text) ≡ whole → stored (set buffer (at + i) (getD text i d)) (at + (i + 1)) (drop (i + 1) text) ≡ whole
-  text-next whole i d = put-next buffer text whole (at + i) (at + (i + 1)) i d (omega arith)
-
-  pub text-end : (start : List ℕ) (i : ℕ) → i ≤ length text → length text ≤ i → length buffer ≡ length start → stored buffer (at + i) (drop i text) ≡ stored start at text → PartPut start at text buffer (at + i)
-  unfolding stored
-  text-end start i within over long left = record { bytes = rw (drop-of-length-le text over) at left; size = long; offset = let all : i ≡ length text = omega arith in rw all }
+pub ruleset parts = (text-part, decimal-put, decimal-most)
 
 -- ---- parts in a row
 sets-append : (s xs ys : List ℕ) (at : ℕ) → sets s at (xs ++ ys) ≡ sets (sets s at xs) (at + length xs) ys
@@ -105,39 +69,35 @@ module _ (s t u : List ℕ) (at a b : ℕ) where
   unfolding slotframeText
   slotframe-put size links v c first second third = row s _ t at a first _ v c (row t _ u a b second _ v c third)
 
--- the digits of a number that a buffer holds
-module _ (s d t : List ℕ) (at k r : ℕ) (put : PartPut s at (take k d) t r) where
-  pub decimal-put : (n : ℕ) → Fewest 10 1 n k → take k d ≡ digits 10 k n → PartPut s at (decimal n) t r
-  decimal-put n h e = let same : take k d ≡ decimal n = e ∙ decimal-is n k h in rw same at put
-
-  pub decimal-most : (n : ℕ) → n < 18446744073709551616 → Fewest 10 1 n k → k ≡ length (take k d) → r ≤ at + 20
-  decimal-most n small h long = omega (arith, digits-few n k small h, long, put .offset)
-
-pub decimal-fits : (d : List ℕ) (buffer at k n : ℕ) → at + 20 ≤ buffer → n < 18446744073709551616 → Fewest 10 1 n k → k ≡ length (take k d) → at + length (take k d) ≤ buffer
-decimal-fits d buffer at k n wide small h long = omega (arith, wide, digits-few n k small h, long)
-
 -- ---- the line: a buffer is too small for it, or it is not
-module _ (buffer : ℕ) where
-  pub small-buffer : (xs line : List ℕ) → 128 ≤ buffer → buffer < 128 → xs ≡ line
-  small-buffer xs line wide small = absurd (omega arith)
+module _ (s frame : List ℕ) (small : length s < 128) where
+  nothing : lineFor (length s) frame ≡ []
+  unfolding lineFor
+  nothing = sym (if-lt _ _ (length s) 128 small refl)
 
-  pub wide-buffer : (r : ℕ) → buffer < 128 → 128 ≤ buffer → r ≡ 0
-  wide-buffer r small wide = absurd (omega arith)
+  pub small-answer : 0 ≡ length (lineFor (length s) frame)
+  small-answer = rw nothing refl
+
+  pub small-buffer : s ≡ startsWith (lineFor (length s) frame) s
+  unfolding startsWith
+  small-buffer = rw nothing refl
+
+pub small-counts : (s : List ℕ) → Counts 0 s
+small-counts s = (omega arith, refl)
 
 module _ (s t xs : List ℕ) (r : ℕ) (put : PartPut s 0 xs t r) (most : r ≤ 128) (wide : 128 ≤ length s) where
-  whole : t ≡ xs ++ drop r s
-  unfolding stored
-  whole =
-      let size : r ≡ length xs = omega (arith, put .offset) in
+  starts : t ≡ startsWith xs s
+  unfolding stored startsWith
+  starts =
       let start : 0 + length xs ≡ length xs = omega arith in
-      let fits : 0 + length xs ≤ length s = omega arith in
-      rw (put .bytes, size) (rw start at (sets-eq xs s 0 fits))
+      let fits : 0 + length xs ≤ length s = omega (arith, put .offset) in
+      rw (put .bytes) (rw start at (sets-eq xs s 0 fits))
 
-  pub line-there : (line : List ℕ) → xs ≡ line → take r t ≡ line
-  line-there line e = rw whole (take-at xs (drop r s) r (omega (arith, put .offset)) ∙ e)
+  pub line-answer : (line : List ℕ) → xs ≡ line → r ≡ length line
+  line-answer line e = rw (← e) (omega (arith, put .offset))
 
-  pub line-behind : drop r t ≡ drop r s
-  line-behind = rw whole (drop-at xs (drop r s) r (omega (arith, put .offset)))
+  pub line-buffer : (line : List ℕ) → xs ≡ line → t ≡ startsWith line s
+  line-buffer line e = rw (← e) starts
 
   within : r ≤ length t
   within = omega (arith, put .size)
@@ -145,13 +105,13 @@ module _ (s t xs : List ℕ) (r : ℕ) (put : PartPut s 0 xs t r) (most : r ≤ 
   pub line-counts : Counts r t
   line-counts = (within, sym (length-take-le r t within))
 
-module _ (s : List ℕ) (a : ReadAnswer) (e : a ≡ readFrame s) where
-  pub line-refused : (a .number ≡ 0 → ⊥) → refusedText (a .number) ≡ lineOf (readFrame s)
-  unfolding lineOf
-  line-refused bad = rw (← e) (if-ne _ _ _ _ bad refl)
+module _ (room : ℕ) (wide : 128 ≤ room) (s : List ℕ) (a : ReadAnswer) (e : a ≡ readFrame s) where
+  pub line-refused : (a .number ≡ 0 → ⊥) → refusedText (a .number) ≡ lineFor room s
+  unfolding lineOf lineFor
+  line-refused bad = if-ge _ _ room 128 wide (rw (← e) (if-ne _ _ _ _ bad refl))
 
-  pub line-accepted : a .number ≡ 0 → acceptedText (a .beacon) ≡ lineOf (readFrame s)
-  unfolding lineOf
-  line-accepted good = rw (← e) (if-eq _ _ _ _ good refl)
+  pub line-accepted : a .number ≡ 0 → acceptedText (a .beacon) ≡ lineFor room s
+  unfolding lineOf lineFor
+  line-accepted good = if-ge _ _ room 128 wide (rw (← e) (if-eq _ _ _ _ good refl))
 
-pub ruleset lines = (field-put, decimal-put, decimal-most, decimal-fits, synchronization-put, refused-put, accepted-put, slotframe-put, line-there, line-behind, line-counts, line-refused, line-accepted)
+pub ruleset lines = (field-put, synchronization-put, refused-put, accepted-put, slotframe-put, small-answer, small-buffer, small-counts, line-answer, line-buffer, line-counts, line-refused, line-accepted)

@@ -1,23 +1,15 @@
 -- The line of text that a reading is printed as, as bytes in ASCII (docs/RULES.md, The printed line). Assumes nothing.
-use Prim.Native.Nat.{ℕ, zero, suc, _+_, _/_}
+use Prim.Native.Nat.{ℕ, _+_}
 use mathlib.Core.Path.{_≡_}
 use mathlib.Core.List.{List, [], _∷_, _++_}
-use lib.ListN.{length}
+use lib.ListN.{length, drop}
 use Rattle.octets_spec.specs.Choice.{ifLt, ifEq}
 use Rattle.octets_spec.specs.Number.{stored}
 use Rattle.refusal.specs.Refusal.{done}
 use Rattle.eb_record_spec.specs.declared.Beacon.{Beacon}
 use Rattle.eb_read_spec.specs.declared.ReadAnswer.{ReadAnswer}
-use Rattle.io.specs.Digits.{digits}
-
--- how many decimal digits a number has; the bound only has to be large enough
-unfoldable pub widthGo : ℕ → ℕ → ℕ
-widthGo zero number = 0
-widthGo (suc bound) number = ifLt number 10 1 (widthGo bound (number / 10) + 1)
-
--- a number in decimal: as many digits as it has, so that no zero leads, and `0` for 0
-unfoldable pub decimal : ℕ → List ℕ
-decimal number = digits 10 (widthGo (suc number) number) number
+use Rattle.eb_read_spec.specs.Read.{readFrame}
+use Rattle.text_put_spec.specs.Text.{decimal}
 
 -- `asn `
 abbrev pub asnName : List ℕ
@@ -66,6 +58,14 @@ refusedText number = field refusedName number ++ newline
 -- the line of a reading, with its newline
 unfoldable pub lineOf : ReadAnswer → List ℕ
 lineOf answer = ifEq (answer .number) done (acceptedText (answer .beacon)) (refusedText (answer .number))
+
+-- what a frame puts into a buffer of some length: its line, and nothing into a buffer of under 128 bytes
+unfoldable pub lineFor : ℕ → List ℕ → List ℕ
+lineFor room frame = ifLt room 128 [] (lineOf (readFrame frame))
+
+-- a buffer that begins with a text, and is behind it as it was
+unfoldable pub startsWith : List ℕ → List ℕ → List ℕ
+startsWith text buffer = text ++ drop (length text) buffer
 
 -- a part of the line was put into a buffer from an offset on: the buffer then, and the offset behind the part
 pub record PartPut (buffer : List ℕ) (at : ℕ) (part : List ℕ) (after : List ℕ) (next : ℕ) : Type 0 where

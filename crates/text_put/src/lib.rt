@@ -1,0 +1,54 @@
+// Text, decimal and hex put into a lent buffer from an offset on. Each function answers the offset behind what it put. What does not fit is not
+// put at all: the buffer is then as it was, and the answer is the offset itself.
+ghost use mathlib.Core.Path.{_≡_};
+ghost use Prim.Native.Nat.{_+_, _≤_};
+ghost use lib.ListN.{length};
+ghost use Rattle.octets_spec.specs.Number.{stored};
+ghost use Rattle.text_put_spec.specs.Text.{decimal as Text·decimal, hexadecimal, fitting};
+
+// Puts a text that fits, byte by byte.
+fn store(buffer: &mut [u8], at: usize, text: &[u8]) -> usize
+    requires { ⌜ at + length (now text) ≤ length (now buffer) ⌝ }
+    ensures { λ r. ⌜ (r ≡ at + length (now (text .entry))) × (now (buffer .exit) ≡ stored (now (buffer .entry)) at (now (text .entry))) ⌝ }
+{
+    let mut i = 0;
+    while i < text.len() {
+        buffer[at + i] = text[i];
+        i += 1;
+    }
+    at + i
+}
+
+// Puts a text.
+pub fn text(buffer: &mut [u8], at: usize, text: &[u8]) -> usize
+    ensures answer { λ r. ⌜ r ≡ at + length (fitting (length (now (buffer .entry))) at (now (text .entry))) ⌝ }
+    ensures buffer { λ r. ⌜ now (buffer .exit) ≡ stored (now (buffer .entry)) at (fitting (length (now (buffer .entry))) at (now (text .entry))) ⌝ }
+{
+    if buffer.len() < text.len() {
+        return at;
+    }
+    if buffer.len() - text.len() < at {
+        return at;
+    }
+    store(buffer, at, text)
+}
+
+// Puts a number in decimal, without leading zeros.
+pub fn decimal(buffer: &mut [u8], at: usize, value: u64) -> usize
+    ensures answer { λ r. ⌜ r ≡ at + length (fitting (length (now (buffer .entry))) at (Text·decimal value)) ⌝ }
+    ensures buffer { λ r. ⌜ now (buffer .exit) ≡ stored (now (buffer .entry)) at (fitting (length (now (buffer .entry))) at (Text·decimal value)) ⌝ }
+{
+    let mut digits = [0u8; 20];
+    let count = io::decimal(value, &mut digits);
+    text(buffer, at, &digits[..count])
+}
+
+// Puts a number in hex, in lower case, with zeros in front up to width digits; a width above 16 counts as 16.
+pub fn hex(buffer: &mut [u8], at: usize, value: u64, width: usize) -> usize
+    ensures answer { λ r. ⌜ r ≡ at + length (fitting (length (now (buffer .entry))) at (hexadecimal width value)) ⌝ }
+    ensures buffer { λ r. ⌜ now (buffer .exit) ≡ stored (now (buffer .entry)) at (fitting (length (now (buffer .entry))) at (hexadecimal width value)) ⌝ }
+{
+    let mut space = [0u8; 16];
+    let count = io::hex(value, width, &mut space);
+    text(buffer, at, &space[..count])
+}
