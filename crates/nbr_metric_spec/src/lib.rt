@@ -15,7 +15,7 @@ pub const INFINITE_RANK: u16 = 65535;
 pub const NO_OFFER: u32 = 65535;
 
 // A place of the table. The counters are wider than their limits, so that a table over them can be given, and is refused.
-// C knows it as struct tesolvagna_place: 16 bytes, the last of which is padding.
+// C knows it as struct tesolvagna_neighbour: 16 bytes, the last of which is padding.
 #[repr(C)]
 pub struct Place {
     pub id: u64,

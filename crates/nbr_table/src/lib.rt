@@ -1,4 +1,4 @@
-// Whether a table breaks a rule, which every call asks first. The rules are those of docs/RULES.md, Neighbours.
+// Whether a table breaks a rule, for which every call refuses it. The rules are those of docs/RULES.md, Neighbours.
 use nbr_table_spec::Parent;
 ghost use mathlib.Core.Path.{_≡_};
 ghost use Prim.Native.Nat.{_≤_};
