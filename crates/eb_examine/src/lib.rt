@@ -1,15 +1,13 @@
 // The checks of a frame: those before its elements, the walk over the elements, and what is missing.
 ghost use mathlib.Core.Path.{_≡_};
-ghost use Prim.Native.Nat.{_≤_};
-ghost use lib.ListN.{length};
-ghost use Rattle.ie_walk_spec.specs.Walk.{headerList};
-ghost use Rattle.eb_read_spec.specs.Read.{walkStart, elementsWalk, missing, walkNumber, blankWalk, elementsOffset, examined, acceptedWalk};
+ghost use Prim.Native.Nat.{_+_, _≤_, _<_, _^_};
+ghost use Rattle.eb_read_spec.specs.Read.{walkStart, skippedBefore, elementsWalk, missing, walkNumber, examined, acceptedWalk};
 ghost use Rattle.eb_read_spec.specs.Inside.{AcceptedLiesInside};
 use eb_read_spec::Examination;
 use ie_walk_spec::HeaderListEnd;
 use ie_walk_spec::Walk;
 
-pub mod mac_header_fault;
+pub mod policy;
 
 // Where the walk begins behind the header list: no element is noted.
 fn walk_start(head: HeaderListEnd) -> Walk
@@ -29,41 +27,33 @@ fn walk_start(head: HeaderListEnd) -> Walk
     }
 }
 
-// No walk.
-fn blank_walk() -> Walk
-    ensures { λ r. ⌜ r ≡ blankWalk ⌝ }
+// A walk with the elements counted that were skipped before it.
+fn skipped_before(count: usize, walk: Walk) -> Walk
+    requires { ⌜ count + walk .skipped < 2 ^ 64 ⌝ }
+    ensures { λ r. ⌜ r ≡ skippedBefore count walk ⌝ }
 {
-    walk_start(HeaderListEnd {
-        fault: 0,
-        faulty: 0,
-        skipped: 0,
-        payload: 0,
-    })
+    Walk {
+        skipped: count + walk.skipped,
+        ..walk
+    }
 }
 
-// The header list, which starts behind the fixed fields.
-fn header_list(s: &[u8]) -> HeaderListEnd
-    ensures { λ r. ⌜ r ≡ headerList (now (s .entry)) (elementsOffset (now (s .entry))) (length (now (s .entry))) ⌝ }
+// The elements from an offset to an end: the header list, and the payload list if one follows.
+fn elements_walk(s: &[u8], at: usize, end: usize) -> Walk
+    ensures { λ r. ⌜ r ≡ elementsWalk (now (s .entry)) at end ⌝ }
 {
-    let offsets = mac_header::offsets_of(mac_header::control_of(octets::get::le(s, 0, 2)));
-    let at = offsets.elements;
-    ie_walk::header_list::header_list(s, at, s.len())
-}
-
-// The elements, of which the header list is read: the payload list if one follows.
-fn elements_walk(s: &[u8], head: HeaderListEnd) -> Walk
-    requires { ⌜ head ≡ headerList (now s) (elementsOffset (now s)) (length (now s)) ⌝ }
-    ensures { λ r. ⌜ r ≡ elementsWalk (now (s .entry)) (elementsOffset (now (s .entry))) (length (now (s .entry))) ⌝ }
-{
-    let start = walk_start(head);
+    let head = ie_walk::header_list::header_list(s, at, end);
     if head.fault != 0 {
-        return start;
+        return walk_start(head);
     }
     if head.payload == 0 {
-        return start;
+        return walk_start(head);
     }
     let payload = head.payload;
-    ie_walk::payload_list::payload_list(s, payload, s.len(), start)
+    skipped_before(
+        head.skipped,
+        ie_walk::payload_list::payload_list(s, payload, end),
+    )
 }
 
 // Missing elements are judged last.
@@ -94,14 +84,15 @@ pub fn examine(s: &[u8]) -> Examination
     ensures answer { λ r. ⌜ r ≡ examined (now (s .entry)) ⌝ }
     ensures inside { λ _. ⌜ AcceptedLiesInside ⌝ }
 {
-    let fault = crate::mac_header_fault::mac_header_fault(s);
+    let header = mac_header::read(s);
+    let fault = crate::policy::policy_fault(s.len(), header);
     if fault != refusal::DONE {
         return Examination {
             number: fault,
-            walk: blank_walk(),
+            walk: ie_walk::payload_list::blank_walk(),
         };
     }
-    let walk = elements_walk(s, header_list(s));
+    let walk = elements_walk(s, header.elements, header.end);
     Examination {
         number: walk_number(walk),
         walk,
@@ -113,12 +104,13 @@ pub fn examine(s: &[u8]) -> Examination
 pub fn accepted_walk(s: &[u8]) -> Walk
     ensures { λ r. ⌜ r ≡ acceptedWalk (now (s .entry)) ⌝ }
 {
-    if crate::mac_header_fault::mac_header_fault(s) != refusal::DONE {
-        return blank_walk();
+    let header = mac_header::read(s);
+    if crate::policy::policy_fault(s.len(), header) != refusal::DONE {
+        return ie_walk::payload_list::blank_walk();
     }
-    let walk = elements_walk(s, header_list(s));
+    let walk = elements_walk(s, header.elements, header.end);
     if walk_number(walk) != refusal::DONE {
-        return blank_walk();
+        return ie_walk::payload_list::blank_walk();
     }
     walk
 }

@@ -10,8 +10,7 @@ use Rattle.ie_step_spec.specs.declared.HeaderStep.{HeaderStep}
 use Rattle.ie_step_spec.specs.declared.HeaderStep.the-variants as header
 use Rattle.ie_step_spec.specs.declared.InnerStep.{InnerStep}
 use Rattle.ie_step_spec.specs.declared.InnerStep.the-variants as inner
-use Rattle.ie_walk_spec.specs.Walk.{bump, headerGo, headerList}
-use Rattle.ie_walk_spec.specs.declared.HeaderListEnd.{HeaderListEnd}
+use Rattle.ie_walk_spec.specs.Walk.{HeaderList, inFront, headerGo, headerList}
 use Rattle.eb_read_spec.proofs.Each.{each-lt, each-eq}
 
 -- ---- a group: a sub-element stands two bytes behind its descriptor's offset, and none is of the kind of joining information
@@ -51,23 +50,23 @@ header-behind s at end =
     (λ none. tt)
 
 -- where payload elements follow
-abbrev pub Follows : ℕ → ℕ → HeaderListEnd → Type 0
+abbrev pub Follows : ℕ → ℕ → HeaderList → Type 0
 Follows at end head = (head .payload ≡ 0 → ⊥) → (at + 2 ≤ head .payload) × (head .payload ≤ end)
 
 module _ (s : List ℕ) (end : ℕ) where
-  header-step : (bound : ℕ) → ((at skipped : ℕ) → Follows at end (headerGo bound s at end skipped)) → (at skipped : ℕ) → (o : HeaderStep) → headerAt s at end ≡ o → headerBehind o at end → Follows at end (headerGo (suc bound) s at end skipped)
-  unfolding headerGo
-  header-step bound rest at skipped header.End e k = rw (e, headerGo) (λ some. absurd (some refl))
-  header-step bound rest at skipped (header.Payload from) e k = rw (e, headerGo) (λ some. k)
-  header-step bound rest at skipped (header.Element id from to) e k =
-      rw (e, headerGo) (λ some. let r = rest to (bump skipped) some in (omega (arith, r, k), r .1))
-  header-step bound rest at skipped (header.Fault number) e k = rw (e, headerGo) (λ some. absurd (some refl))
+  header-step : (bound : ℕ) → ((at : ℕ) → Follows at end (headerGo bound s at end)) → (at : ℕ) → (o : HeaderStep) → headerAt s at end ≡ o → headerBehind o at end → Follows at end (headerGo (suc bound) s at end)
+  unfolding headerGo inFront
+  header-step bound rest at header.End e k = rw (e, headerGo) (λ some. absurd (some refl))
+  header-step bound rest at (header.Payload from) e k = rw (e, headerGo) (λ some. k)
+  header-step bound rest at (header.Element id from to) e k =
+      rw (e, headerGo) (λ some. let r = rest to some in (omega (arith, r, k), r .1))
+  header-step bound rest at (header.Fault number) e k = rw (e, headerGo) (λ some. absurd (some refl))
 
-  header-follows : (bound at skipped : ℕ) → Follows at end (headerGo bound s at end skipped)
+  header-follows : (bound at : ℕ) → Follows at end (headerGo bound s at end)
   unfolding headerGo
-  header-follows zero at skipped = λ some. absurd (some refl)
-  header-follows (suc bound) at skipped = header-step bound (λ i n. header-follows bound i n) at skipped (headerAt s at end) refl (header-behind s at end)
+  header-follows zero at = λ some. absurd (some refl)
+  header-follows (suc bound) at = header-step bound (λ i. header-follows bound i) at (headerAt s at end) refl (header-behind s at end)
 
   pub payload-follows : (at : ℕ) → Follows at end (headerList s at end)
   unfolding headerList
-  payload-follows at = header-follows (suc end) at 0
+  payload-follows at = header-follows (suc end) at

@@ -15,11 +15,12 @@ use Rattle.ie_step_spec.specs.declared.OuterStep.{OuterStep}
 use Rattle.ie_step_spec.specs.declared.OuterStep.the-variants as outer
 use Rattle.ie_step_spec.specs.declared.InnerStep.{InnerStep}
 use Rattle.ie_step_spec.specs.declared.InnerStep.the-variants as inner
-use Rattle.ie_walk_spec.specs.Walk.{seenOf, skipOne, taken, stopped, partTaken, headerList, outerGo, groupGo, payloadList}
+use Rattle.ie_walk_spec.specs.Walk.{blankWalk, skippedOver, seenOf, skipOne, taken, stopped, partTaken, headerList, outerGo, groupGo, payloadList}
 use Rattle.ie_walk_spec.specs.declared.Walk.{Walk}
 use Rattle.ie_walk_spec.specs.declared.HeaderListEnd.{HeaderListEnd}
 use Rattle.eb_read_spec.specs.declared.Examination.{Examination}
-use Rattle.eb_read_spec.specs.Read.{walkStart, blankWalk, elementsWalk, elementsOffset, examined}
+use Rattle.mac_header_spec.specs.Fields.{macHeaderOf}
+use Rattle.eb_read_spec.specs.Read.{walkStart, skippedBefore, elementsWalk, examined}
 use Rattle.eb_read_spec.proofs.Each.{each-eq}
 use Rattle.eb_read_spec.proofs.Within.{outer-within}
 use Rattle.eb_read_spec.proofs.Noted.{kind-sync-ends, kind-hopping-ends, kind-slotframe-ends}
@@ -107,9 +108,9 @@ module _ (s : List ℕ) (w : Walk) (from to : ℕ) where
 -- ---- the walk
 module _ (s : List ℕ) (start : ℕ) where
   -- no element is noted where the walk begins
-  start-counts : (head : HeaderListEnd) (at : ℕ) → start ≤ at → Counts s start (walkStart head) at
-  unfolding Counts inGroups inJoining bytesAt walkStart ifEq
-  start-counts head at h = omega arith
+  start-counts : (at : ℕ) → start ≤ at → Counts s start blankWalk at
+  unfolding Counts inGroups inJoining bytesAt blankWalk ifEq
+  start-counts at h = omega arith
 
   module _ (w : Walk) (at to : ℕ) (more : at ≤ to) where
     further : Counts s start w at → Counts s start w to
@@ -207,17 +208,17 @@ unfolding Counts
 later s start from w end h k = omega arith
 
 elements-count : (s : List ℕ) (at end : ℕ) → Counted s at end (elementsWalk s at end)
-unfolding elementsWalk payloadList
+unfolding elementsWalk payloadList skippedBefore skippedOver Counts inGroups inJoining bytesAt
 elements-count s at end =
     let P : Walk → Type 0 = λ w. Counted s at end w in
     let head = headerList s at end in
     either-eq P _ _ (each-eq P _ _ _ _ (λ none. start-none s at end _)
     (λ follow some.
     let from = payload-follows s end at follow in
-    later s _ (head .payload) _ end (from .0) (lists-count _ .0 s _ _ end _ (from .1) (start-counts s _ head _ (omega arith)))))
+    later s _ (head .payload) (payloadList s (head .payload) end) end (from .0) (lists-count _ .0 s _ _ end _ (from .1) (start-counts s _ _ (omega arith)))))
     (start-none s at end _) _ _
 
-pub examined-count : (s : List ℕ) → (examined s .walk .synchronization ≡ 0 → ⊥) → Counts s (elementsOffset s + 2) (examined s .walk) (length s)
-unfolding examined blankWalk
+pub examined-count : (s : List ℕ) → (examined s .walk .synchronization ≡ 0 → ⊥) → Counts s (macHeaderOf s .elements + 2) (examined s .walk) (length s)
+unfolding examined macHeaderOf blankWalk
 examined-count s =
-    either-eq (λ (x : Examination). Counted s (elementsOffset s) (length s) (x .walk)) _ _ (elements-count s (elementsOffset s) (length s)) (start-none s (elementsOffset s) (length s) _) _ _
+    either-eq (λ (x : Examination). Counted s (macHeaderOf s .elements) (length s) (x .walk)) _ _ (elements-count s (macHeaderOf s .elements) (length s)) (λ some. absurd (some refl)) _ _

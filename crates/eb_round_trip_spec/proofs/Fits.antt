@@ -14,12 +14,13 @@ use Rattle.octets_spec.specs.Number.{leAt, beAt}
 use Rattle.octets_spec.specs.Counted.{counted}
 use Rattle.octets_spec.proofs.ChoiceLaws.{if-lt, if-eq, if-ne, either-lt, either-eq}
 use Rattle.eb_record_spec.specs.Record.{blankLink, blankBeacon}
-use Rattle.eb_record_spec.specs.declared.SequenceNumber.{SequenceNumber}
-use Rattle.eb_record_spec.specs.declared.Address.{Address}
+use Rattle.mac_header_spec.specs.declared.SequenceNumber.{SequenceNumber}
+use Rattle.mac_header_spec.specs.declared.Address.the-variants.{Short, Extended}
 use Rattle.eb_record_spec.specs.declared.TimeslotTemplate.{TimeslotTemplate}
 use Rattle.eb_record_spec.specs.declared.JoiningInformation.{JoiningInformation}
 use Rattle.ie_walk_spec.specs.declared.Walk.{Walk}
-use Rattle.eb_read_spec.specs.Decode.{sequenceOf, sourceOf, synchronizationAt, timingAt, templateAt, linkAt, slotframeAt, networkOffset, joiningAt, macHeaderOf, decoded}
+use Rattle.mac_header_spec.specs.Fields.{addressLength, macHeaderOf, sequenceOf, addressOf}
+use Rattle.eb_read_spec.specs.Decode.{synchronizationAt, timingAt, templateAt, linkAt, slotframeAt, networkOffset, joiningAt, decoded}
 use Rattle.eb_read_spec.specs.Read.{examined}
 use Rattle.eb_read_spec.specs.Claims.{Bytes}
 use Rattle.eb_read_spec.proofs.Noted.{SlotframePassed, TimeslotPassed, Noted, examined-noted}
@@ -50,13 +51,17 @@ module _ (s : List ℕ) (bytes : Bytes s) where
   two-fit at = lt-ltb _ _ (le-below s bytes 2 at)
 
   -- ---- what stands before the elements
-  sequence-fits : (suppressed : ℕ) → sequenceFits (sequenceOf s suppressed) ≡ true
-  unfolding sequenceOf sequenceFits
-  sequence-fits suppressed = either-eq (λ (q : SequenceNumber). sequenceFits q ≡ true) _ _ (byte-fits 2) refl _ _
+  sequence-fits : sequenceFits (sequenceOf (macHeaderOf s)) ≡ true
+  unfolding sequenceOf sequenceFits macHeaderOf
+  sequence-fits = either-eq (λ (q : SequenceNumber). sequenceFits q ≡ true) _ _ (either-eq (λ (n : ℕ). ltb n 256 ≡ true) _ _ (byte-fits 2) refl _ _) refl _ _
 
-  source-fits : (mode at : ℕ) → sourceFits (sourceOf s mode at) ≡ true
-  unfolding sourceOf sourceFits
-  source-fits mode at = either-eq (λ (a : Address). sourceFits a ≡ true) _ _ (lt-ltb _ _ (le-below s bytes 8 at)) (two-fit at) _ _
+  source-fits : (mode at : ℕ) → sourceFits (addressOf mode (leAt (addressLength mode) s at)) ≡ true
+  unfolding addressOf addressLength sourceFits ifEq
+  source-fits mode at = of (eqb mode 3)
+    where
+      of : (t : Bool) → sourceFits (cond t (Extended (leAt (cond t 8 2) s at)) (Short (leAt (cond t 8 2) s at))) ≡ true
+      of true = lt-ltb _ _ (le-below s bytes 8 at)
+      of false = two-fit at
 
   synchronization-fits : (at : ℕ) → synchronizationFits (synchronizationAt s at) ≡ true
   unfolding synchronizationAt synchronizationFits
@@ -134,7 +139,7 @@ module _ (s : List ℕ) (bytes : Bytes s) where
   decoded-fits : (w : Walk) → Noted s (length s) w → Required w → fits (decoded s w) ≡ true
   unfolding fits decoded macHeaderOf
   decoded-fits w noted required =
-      also (sequence-fits _) (also (two-fit _) (also (source-fits _ _) (also (synchronization-fits (w .synchronization))
+      also sequence-fits (also (two-fit _) (also (source-fits _ _) (also (synchronization-fits (w .synchronization))
       (also (template-fits (w .timeslot) (w .timeslotend) (noted .timeslot (required .timeslot))) (also (byte-fits (w .hopping))
       (also (slotframe-fits (w .slotframe) (noted .slotframe (required .slotframe))) (joining-fits (w .joining) (w .joiningend))))))))
 

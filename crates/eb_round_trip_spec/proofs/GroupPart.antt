@@ -12,11 +12,11 @@ use Rattle.ie_step_spec.specs.Payload.{groupOf, outerAt}
 use Rattle.ie_step_spec.specs.declared.OuterStep.the-variants as outer
 use Rattle.ie_step_spec.specs.declared.InnerStep.the-variants as inner
 use Rattle.ie_step_spec.proofs.StepLaws.{inner-end}
-use Rattle.ie_walk_spec.specs.Walk.{seenOf, taken, OuterIs}
+use Rattle.ie_walk_spec.specs.Walk.{blankWalk, seenOf, taken, OuterIs}
 use Rattle.ie_walk_spec.specs.declared.Walk.{Walk}
 use Rattle.ie_walk_spec.proofs.ListLaws.{outer-start, outer-enter, GroupLeads, group-start, group-back}
 use Rattle.eb_read_spec.specs.Decode.{synchronizationAt, templateAt, slotframeAt}
-use Rattle.eb_read_spec.specs.Read.{walkStart, blankWalk, missing}
+use Rattle.eb_read_spec.specs.Read.{missing}
 use Rattle.eb_write_spec.specs.Frame.{synchronizationBytes, templateSize, templateBytes, hoppingBytes, slotframeBytes, groupSize, groupBytes, beaconGroupSize, beaconGroup}
 use Rattle.eb_write_spec.proofs.LengthLaws.{length-synchronization, length-template, length-hopping}
 use Rattle.eb_round_trip_spec.specs.ReadBack.{Sized}
@@ -114,25 +114,30 @@ module _ (s : List ℕ) (at end : ℕ) (b : Beacon) (sized : Sized b) (w : Withi
   pastGroup = taken pastThird 27 (fourth + 2) last
 
   leads : GroupLeads s first to end blankWalk last pastGroup
-  unfolding pastFirst pastSecond pastThird pastGroup blankWalk walkStart seenOf taken ifEq
+  unfolding pastFirst pastSecond pastThird pastGroup blankWalk seenOf taken ifEq
   leads =
       part-passes s first to end blankWalk fourth pastThird _ _ _ fourth-part (omega (arith, last-is)) refl refl
       (part-passes s first to end blankWalk third pastSecond _ _ _ third-part (omega (arith, last-is)) refl refl
       (part-passes s first to end blankWalk second pastFirst _ _ _ second-part (omega (arith, last-is)) refl refl
-      (part-passes s first to end blankWalk first blankWalk _ _ _ first-part (omega (arith, last-is)) refl refl (group-start s first to end blankWalk (omega arith) buffer))))
+      (part-passes s first to end blankWalk first blankWalk _ _ _ first-part (omega (arith, last-is)) refl refl (group-start s first to end blankWalk (omega arith) buffer (omega arith)))))
 
   -- what the list behind the group gives from there, the list from the group on gives
   pub group-passes : (r : Walk) → OuterIs s to end pastGroup r → OuterIs s at end blankWalk r
+  unfolding blankWalk
   group-passes r go =
       outer-enter s at end blankWalk at blankWalk (outer.Group (at + 2) to) (enters .0) (at + 2) to (refl, omega arith, buffer) refl r
-      (group-back s first to end blankWalk last pastGroup inner.Back (inner-end s last to (omega (arith, last-is))) r refl go leads) (outer-start s at end blankWalk (omega arith))
+      (group-back s first to end blankWalk last pastGroup inner.Back (inner-end s last to (omega (arith, last-is))) r refl go leads) (outer-start s at end blankWalk (omega arith) (omega arith))
+
+  pub group-few : pastGroup .skipped ≤ to
+  unfolding pastFirst pastSecond pastThird pastGroup blankWalk taken ifEq
+  group-few = omega arith
 
   pub group-fresh : pastGroup .joining ≡ 0
-  unfolding pastFirst pastSecond pastThird pastGroup blankWalk walkStart taken ifEq
+  unfolding pastFirst pastSecond pastThird pastGroup blankWalk taken ifEq
   group-fresh = refl
 
   pub group-noted : Noted s b pastGroup
-  unfolding pastFirst pastSecond pastThird pastGroup blankWalk walkStart taken ifEq
+  unfolding pastFirst pastSecond pastThird pastGroup blankWalk taken ifEq
   group-noted = record {
     fine = refl;
     all = none-missing pastGroup (omega arith) (omega arith) (omega arith) (omega arith);

@@ -14,14 +14,15 @@ use Rattle.octets_spec.specs.Counted.{counted}
 use Rattle.octets_spec.proofs.ChoiceLaws.{if-lt, if-ne, by-lt, either-lt, either-eq}
 use Rattle.octets_spec.proofs.CountedLaws.{length-counted}
 use Rattle.eb_record_spec.specs.Record.{blankLink}
-use Rattle.eb_record_spec.specs.declared.SequenceNumber.the-variants.{Absent, Number}
-use Rattle.eb_record_spec.specs.declared.Address.the-variants.{Short, Extended}
+use Rattle.mac_header_spec.specs.declared.SequenceNumber.the-variants.{Absent, Number}
+use Rattle.mac_header_spec.specs.declared.Address.the-variants.{Short, Extended}
 use Rattle.eb_record_spec.specs.declared.TimeslotTemplate.{TimeslotTemplate}
 use Rattle.eb_record_spec.specs.declared.JoiningInformation.{JoiningInformation}
-use Rattle.mac_header_spec.specs.Control.{controlOf, addressLength, offsetsOf}
+use Rattle.mac_header_spec.specs.Fields.{addressLength, offsetsOf, macHeaderOf, sequenceOf, addressOf}
+use Rattle.mac_header_spec.specs.declared.MacHeader.{MacHeader}
 use Rattle.ie_walk_spec.specs.declared.Walk.{Walk}
-use Rattle.eb_read_spec.specs.Decode.{sequenceOf, sourceOf, timingAt, templateAt, slotframeAt, networkOffset, joiningAt, macHeaderOf, decoded}
-use Rattle.eb_read_spec.specs.Read.{elementsOffset, examined, readFrame}
+use Rattle.eb_read_spec.specs.Decode.{timingAt, templateAt, slotframeAt, networkOffset, joiningAt, decoded}
+use Rattle.eb_read_spec.specs.Read.{examined, readFrame}
 use Rattle.eb_read_spec.specs.Claims.{Bytes}
 use Rattle.eb_read_spec.proofs.NetworkRecord.{top-bits}
 use Rattle.eb_read_spec.proofs.Each.{each-eq}
@@ -54,30 +55,28 @@ unfolding ifOn sequenceBytes
 sequence-on true n = omega (arith, length-le 1 n)
 sequence-on false n = refl
 
-source-on : (test : Bool) (long short : ℕ) → ifOn test 8 2 ≡ length (sourceBytes (ifOn test (Extended long) (Short short)))
+source-on : (test : Bool) (n : ℕ) → ifOn test 8 2 ≡ length (sourceBytes (ifOn test (Extended n) (Short n)))
 unfolding ifOn sourceBytes
-source-on true long short = sym (length-le 8 long)
-source-on false long short = sym (length-le 2 short)
+source-on true n = sym (length-le 8 n)
+source-on false n = sym (length-le 2 n)
 
-module _ (s : List ℕ) where
-  sequence-offset : (suppressed : ℕ) → ifEq suppressed 0 3 2 ≡ 2 + length (sequenceBytes (sequenceOf s suppressed))
-  unfolding sequenceOf ifEq ifOn
-  sequence-offset suppressed = sequence-on (eqb suppressed 0) (getD s 2 0)
+sequence-offset : (header : MacHeader) → ifEq (header .control .suppressed) 0 3 2 ≡ 2 + length (sequenceBytes (sequenceOf header))
+unfolding sequenceOf ifEq ifOn
+sequence-offset header = sequence-on (eqb (header .control .suppressed) 0) (header .sequence)
 
-  source-offset : (mode at : ℕ) → addressLength mode ≡ length (sourceBytes (sourceOf s mode at))
-  unfolding addressLength sourceOf ifEq ifOn
-  source-offset mode at = source-on (eqb mode 3) (leAt 8 s at) (leAt 2 s at)
+source-offset : (mode n : ℕ) → addressLength mode ≡ length (sourceBytes (addressOf mode n))
+unfolding addressLength addressOf ifEq ifOn
+source-offset mode n = source-on (eqb mode 3) n
 
-  destination-offset : (mode : ℕ) → 2 ≤ addressLength mode
-  unfolding addressLength
-  destination-offset mode = either-eq (λ (n : ℕ). 2 ≤ n) _ _ (omega arith) (omega arith) _ _
+destination-offset : (mode : ℕ) → 2 ≤ addressLength mode
+unfolding addressLength
+destination-offset mode = either-eq (λ (n : ℕ). 2 ≤ n) _ _ (omega arith) (omega arith) _ _
 
-  mac-header-least : 6 + length (sequenceBytes (macHeaderOf s .sequence)) + length (sourceBytes (macHeaderOf s .source)) ≤ elementsOffset s
-  unfolding macHeaderOf elementsOffset offsetsOf
-  mac-header-least =
-      let control = controlOf (leAt 2 s 0) in
-      let offsets = offsetsOf control in
-      omega (arith, sequence-offset (control .suppressed), destination-offset (control .destination), source-offset (control .source) (offsets .source))
+mac-header-least : (s : List ℕ) → 6 + length (sequenceBytes (sequenceOf (macHeaderOf s))) + length (sourceBytes (addressOf (macHeaderOf s .control .source) (macHeaderOf s .source))) ≤ macHeaderOf s .elements
+unfolding macHeaderOf offsetsOf
+mac-header-least s =
+    let header = macHeaderOf s in
+    omega (arith, sequence-offset header, destination-offset (header .control .destination), source-offset (header .control .source) (header .source))
 
 -- ---- timeslot: a timing of two bytes is written in two
 narrow : (a b : ℕ) → a < 65536 → b < 65536 → lastWidth (a ∷ b ∷ []) ≡ 2
@@ -129,7 +128,7 @@ unfolding inGroups
 counted-all s w required = rw (there _ _ (required .synchronization), there _ _ (required .timeslot), there _ _ (required .hopping), there _ _ (required .slotframe))
 
 module _ (s : List ℕ) (bytes : Bytes s) (w : Walk) (noted : Noted s (length s) w) (required : Required w) where
-  formula-most : Counts s (elementsOffset s + 2) w (length s) → frameLength (decoded s w) ≤ length s
+  formula-most : Counts s (macHeaderOf s .elements + 2) w (length s) → frameLength (decoded s w) ≤ length s
   unfolding frameLength groupSize decoded slotframeAt Counts inJoining
   formula-most counts =
       omega (arith, counts, counted-all s w required, mac-header-least s, template-most s bytes (w .timeslot) (w .timeslotend) (noted .timeslot (required .timeslot)), joining-most s bytes (w .joining) (w .joiningend) (noted .joining))
@@ -147,7 +146,7 @@ module _ (s : List ℕ) (bytes : Bytes s) (w : Walk) (noted : Noted s (length s)
   unfolding decoded joiningAt
   network-size = either-eq (λ (j : JoiningInformation). length (j .network) ≡ 16) _ _ (length-replicate {A = ℕ} 16 0) (length-padded _ 0 16 _) _ _
 
-  frame-most : fits (decoded s w) ≡ true → Counts s (elementsOffset s + 2) w (length s) → length (frameOf (decoded s w)) ≤ length s
+  frame-most : fits (decoded s w) ≡ true → Counts s (macHeaderOf s .elements + 2) w (length s) → length (frameOf (decoded s w)) ≤ length s
   frame-most within counts = rw (length-frame (decoded s w) timings-size links-size network-size within) (formula-most counts)
 
 pub read-sized : (s : List ℕ) → Bytes s → readFrame s .number ≡ 0 → Sized (readFrame s .beacon)

@@ -7,6 +7,8 @@ use lib.ListN.{length}
 use Rattle.octets_spec.specs.Choice.{ifOn}
 use Rattle.eb_record_spec.specs.declared.Beacon.{Beacon}
 use Rattle.ie_walk_spec.specs.declared.Walk.{Walk}
+use Rattle.mac_header_spec.specs.Fields.{macHeaderOf}
+use Rattle.eb_read_spec.specs.Policy.{macHeaderFault}
 use Rattle.eb_read_spec.specs.Decode.{decoded}
 use Rattle.eb_read_spec.proofs.DecodeLaws.{decodes}
 use Rattle.eb_read_spec.specs.Read.{elementsWalk, examined, readFrame}
@@ -49,13 +51,14 @@ module _ (s : List ℕ) (b : Beacon) (ok : Writable b) (is : s ≡ frameOf b) wh
 
   -- ---- the number and the record
   examines : _≡_ {A = Examination} (record { number = 0; walk = walk }) (examined s)
-  examines = examined-walk s 0 (header .fine) walk at 0 refl (header .offset) refl (faultless walk 0 (elements .noted .fine) (elements .noted .all))
+  unfolding macHeaderFault macHeaderOf
+  examines = examined-walk s (macHeaderOf s) 0 refl (header .fine) walk 0 refl (rw (header .offset) refl) (faultless walk 0 (elements .noted .fine) (elements .noted .all))
 
   decodes-it : b ≡ decoded s walk
   decodes-it =
       let n = elements .noted in
-      decodes s walk (record { sequence = b .sequence; pan = b .pan; source = b .source }) (b .synchronization) (b .timeslot) (walk .timeslotend - walk .timeslot) (b .hopping) (b .slotframe) (b .joining)
-      (header .reads) (n .synchronization) refl (n .timeslot) (n .hopping) (n .slotframe) (elements .joining)
+      decodes s walk (b .sequence) (b .pan) (b .source) (b .synchronization) (b .timeslot) (walk .timeslotend - walk .timeslot) (b .hopping) (b .slotframe) (b .joining)
+      (header .sequence) (header .pan) (header .source) (n .synchronization) refl (n .timeslot) (n .hopping) (n .slotframe) (elements .joining)
 
   reads : _≡_ {A = ReadAnswer} (record { number = 0; beacon = b }) (readFrame s)
   reads = read-done s (record { number = 0; walk = walk }) examines b refl decodes-it

@@ -4,17 +4,17 @@ use borrow.Author.Needs.{needs}
 use Rattle.eb_examine.proofs.accepted_walk.Statement.{statement}
 use Rattle.eb_examine.proofs.accepted_walk.Tie as tie
 
-mac-header-fault-requires : tie.Need-mac-header-fault-requires
-mac-header-fault-requires c κs = search needs
+read-requires : tie.Need-read-requires
+read-requires c κs = search needs
+
+policy-fault-requires : tie.Need-policy-fault-requires
+policy-fault-requires c κs = search needs
 
 blank-walk-requires : tie.Need-blank-walk-requires
 blank-walk-requires c κs = search needs
 
 returns : tie.Need-returns
 returns c = search (needs, reading)
-
-header-list-requires : tie.Need-header-list-requires
-header-list-requires c κs = search needs
 
 elements-walk-requires : tie.Need-elements-walk-requires
 elements-walk-requires c κs = search needs
@@ -34,5 +34,13 @@ returns-3 c = search (needs, reading)
 pub accepted-walk-spec : {M : Type 1} → statement M
 accepted-walk-spec =
     tie.close
-    (tie.spec mac-header-fault-requires blank-walk-requires returns header-list-requires elements-walk-requires
-    walk-number-requires blank-walk-requires-2 returns-2 returns-3)
+    (tie.spec
+    read-requires
+    policy-fault-requires
+    blank-walk-requires
+    returns
+    elements-walk-requires
+    walk-number-requires
+    blank-walk-requires-2
+    returns-2
+    returns-3)

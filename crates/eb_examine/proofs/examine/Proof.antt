@@ -5,17 +5,17 @@ use borrow.Author.Needs.{needs}
 use Rattle.eb_examine.proofs.examine.Statement.{statement}
 use Rattle.eb_examine.proofs.examine.Tie as tie
 
-mac-header-fault-requires : tie.Need-mac-header-fault-requires
-mac-header-fault-requires c κs = search needs
+read-requires : tie.Need-read-requires
+read-requires c κs = search needs
+
+policy-fault-requires : tie.Need-policy-fault-requires
+policy-fault-requires c κs = search needs
 
 blank-walk-requires : tie.Need-blank-walk-requires
 blank-walk-requires c κs = search needs
 
 returns : tie.Need-returns
 returns c = (search (needs, reading), accepted-lies-inside)
-
-header-list-requires : tie.Need-header-list-requires
-header-list-requires c κs = search needs
 
 elements-walk-requires : tie.Need-elements-walk-requires
 elements-walk-requires c κs = search needs
@@ -29,5 +29,11 @@ returns-2 c = (search (needs, reading), accepted-lies-inside)
 pub examine-spec : {M : Type 1} → statement M
 examine-spec =
     tie.close
-    (tie.spec mac-header-fault-requires blank-walk-requires returns header-list-requires elements-walk-requires
-    walk-number-requires returns-2)
+    (tie.spec
+    read-requires
+    policy-fault-requires
+    blank-walk-requires
+    returns
+    elements-walk-requires
+    walk-number-requires
+    returns-2)

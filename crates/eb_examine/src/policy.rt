@@ -1,12 +1,20 @@
-// The checks before a frame's elements: its length, the frame control word, the fixed fields and the destination.
+// What is accepted of a frame before its elements: its length, its type and version, no security, its addressing and its destination.
 ghost use mathlib.Core.Path.{_≡_};
-ghost use Rattle.mac_header_spec.specs.Control.{formFault, macHeaderFault};
+ghost use Rattle.eb_read_spec.specs.Policy.{formFault, policyFault};
+use mac_header_spec::MacHeader;
+
+// The most bytes of a frame without its check sequence.
+const MOST_BYTES: usize = 125;
+// The type of a beacon.
+const BEACON: u64 = 0;
+// The short address that all nodes receive.
+const BROADCAST: u64 = 0xFFFF;
 
 // Whether the control word is a beacon's, of the accepted form.
 fn form_fault(control: mac_header_spec::Control) -> u8
     ensures { λ r. ⌜ r ≡ formFault control ⌝ }
 {
-    if control.kind != mac_header_spec::BEACON {
+    if control.kind != BEACON {
         return refusal::WRONG_TYPE;
     }
     if control.version != mac_header_spec::VERSION_2015 {
@@ -30,27 +38,24 @@ fn form_fault(control: mac_header_spec::Control) -> u8
     refusal::DONE
 }
 
-// The checks before the elements, in their order.
-pub fn mac_header_fault(s: &[u8]) -> u8
-    ensures { λ r. ⌜ r ≡ macHeaderFault (now (s .entry)) ⌝ }
+// The checks before the elements, in their order, of a frame of this size with this MAC header.
+pub fn policy_fault(size: usize, header: MacHeader) -> u8
+    ensures { λ r. ⌜ r ≡ policyFault size header ⌝ }
 {
-    if 125 < s.len() {
+    if MOST_BYTES < size {
         return refusal::FRAME_TOO_LONG;
     }
-    if s.len() < 2 {
+    if size < 2 {
         return refusal::CUT;
     }
-    let control = mac_header::control_of(octets::get::le(s, 0, 2));
-    let fault = form_fault(control);
+    let fault = form_fault(header.control);
     if fault != refusal::DONE {
         return fault;
     }
-    let offsets = mac_header::offsets_of(control);
-    if s.len() < offsets.elements {
+    if header.end < header.elements {
         return refusal::CUT;
     }
-    let destination = offsets.destination;
-    if octets::get::le(s, destination, 2) != mac_header_spec::BROADCAST {
+    if header.destination != BROADCAST {
         return refusal::ADDRESSING;
     }
     refusal::DONE
