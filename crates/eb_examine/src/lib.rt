@@ -1,11 +1,14 @@
 // The checks of a frame: those before its elements, the walk over the elements, and what is missing.
 ghost use mathlib.Core.Path.{_≡_};
 ghost use Prim.Native.Nat.{_+_, _≤_, _<_, _^_};
-ghost use Rattle.eb_read_spec.specs.Read.{walkStart, skippedBefore, elementsWalk, missing, walkNumber, examined, acceptedWalk};
+ghost use Rattle.mac_header_spec.specs.Fields.{macHeaderOf};
+ghost use Rattle.ie_walk_spec.specs.Walk.{headerList, skippedOver};
+ghost use Rattle.eb_read_spec.specs.Read.{walkStart, CountsBefore, skippedBefore, behindHeader, missing, walkNumber, examined, acceptedWalk};
 ghost use Rattle.eb_read_spec.specs.Inside.{AcceptedLiesInside};
 use eb_read_spec::Examination;
 use ie_walk_spec::HeaderListEnd;
 use ie_walk_spec::Walk;
+use mac_header_spec::FieldOffsets;
 
 pub mod policy;
 
@@ -38,18 +41,38 @@ fn skipped_before(count: usize, walk: Walk) -> Walk
     }
 }
 
-// The elements from an offset to an end: the header list, and the payload list if one follows.
-fn elements_walk(s: &[u8], at: usize, end: usize) -> Walk
-    ensures { λ r. ⌜ r ≡ elementsWalk (now (s .entry)) at end ⌝ }
+// Where the elements start and end.
+fn field_offsets(s: &[u8]) -> FieldOffsets
+    ensures { λ r. ⌜ (r .elements ≡ macHeaderOf (now (s .entry)) .elements) × (r .end ≡ macHeaderOf (now (s .entry)) .end) ⌝ }
 {
-    let head = ie_walk::header_list::header_list(s, at, end);
+    let control = mac_header::control_of(octets::get::le(s, 0, 2));
+    mac_header::offsets_of(control, s.len())
+}
+
+// The header list of a frame.
+fn header_list(s: &[u8]) -> HeaderListEnd
+    ensures { λ r. ⌜ r ≡ skippedOver (headerList (now (s .entry)) (macHeaderOf (now (s .entry)) .elements) (macHeaderOf (now (s .entry)) .end)) ⌝ }
+{
+    let offsets = field_offsets(s);
+    let at = offsets.elements;
+    let end = offsets.end;
+    ie_walk::header_list::header_list(s, at, end)
+}
+
+// The elements behind a header list: the payload list, if one follows.
+fn behind_header(s: &[u8], head: HeaderListEnd) -> Walk
+    requires { ⌜ CountsBefore head ⌝ }
+    ensures { λ r. ⌜ r ≡ behindHeader (now (s .entry)) head (macHeaderOf (now (s .entry)) .end) ⌝ }
+{
     if head.fault != 0 {
         return walk_start(head);
     }
     if head.payload == 0 {
         return walk_start(head);
     }
+    let offsets = field_offsets(s);
     let payload = head.payload;
+    let end = offsets.end;
     skipped_before(
         head.skipped,
         ie_walk::payload_list::payload_list(s, payload, end),
@@ -84,15 +107,14 @@ pub fn examine(s: &[u8]) -> Examination
     ensures answer { λ r. ⌜ r ≡ examined (now (s .entry)) ⌝ }
     ensures inside { λ _. ⌜ AcceptedLiesInside ⌝ }
 {
-    let header = mac_header::read(s);
-    let fault = crate::policy::policy_fault(s.len(), header);
+    let fault = crate::policy::mac_header_fault(s);
     if fault != refusal::DONE {
         return Examination {
             number: fault,
             walk: ie_walk::payload_list::blank_walk(),
         };
     }
-    let walk = elements_walk(s, header.elements, header.end);
+    let walk = behind_header(s, header_list(s));
     Examination {
         number: walk_number(walk),
         walk,
@@ -104,11 +126,10 @@ pub fn examine(s: &[u8]) -> Examination
 pub fn accepted_walk(s: &[u8]) -> Walk
     ensures { λ r. ⌜ r ≡ acceptedWalk (now (s .entry)) ⌝ }
 {
-    let header = mac_header::read(s);
-    if crate::policy::policy_fault(s.len(), header) != refusal::DONE {
+    if crate::policy::mac_header_fault(s) != refusal::DONE {
         return ie_walk::payload_list::blank_walk();
     }
-    let walk = elements_walk(s, header.elements, header.end);
+    let walk = behind_header(s, header_list(s));
     if walk_number(walk) != refusal::DONE {
         return ie_walk::payload_list::blank_walk();
     }

@@ -1,7 +1,6 @@
 // What is accepted of a frame before its elements: its length, its type and version, no security, its addressing and its destination.
 ghost use mathlib.Core.Path.{_≡_};
-ghost use Rattle.eb_read_spec.specs.Policy.{formFault, policyFault};
-use mac_header_spec::MacHeader;
+ghost use Rattle.eb_read_spec.specs.Policy.{formFault, macHeaderFault};
 
 // The most bytes of a frame without its check sequence.
 const MOST_BYTES: usize = 125;
@@ -38,24 +37,27 @@ fn form_fault(control: mac_header_spec::Control) -> u8
     refusal::DONE
 }
 
-// The checks before the elements, in their order, of a frame of this size with this MAC header.
-pub fn policy_fault(size: usize, header: MacHeader) -> u8
-    ensures { λ r. ⌜ r ≡ policyFault size header ⌝ }
+// The checks before the elements, in their order.
+pub fn mac_header_fault(s: &[u8]) -> u8
+    ensures { λ r. ⌜ r ≡ macHeaderFault (now (s .entry)) ⌝ }
 {
-    if MOST_BYTES < size {
+    if MOST_BYTES < s.len() {
         return refusal::FRAME_TOO_LONG;
     }
-    if size < 2 {
+    if s.len() < 2 {
         return refusal::CUT;
     }
-    let fault = form_fault(header.control);
+    let control = mac_header::control_of(octets::get::le(s, 0, 2));
+    let fault = form_fault(control);
     if fault != refusal::DONE {
         return fault;
     }
-    if header.end < header.elements {
+    let offsets = mac_header::offsets_of(control, s.len());
+    if offsets.end < offsets.elements {
         return refusal::CUT;
     }
-    if header.destination != BROADCAST {
+    let destination = offsets.destination;
+    if octets::get::le(s, destination, 2) != BROADCAST {
         return refusal::ADDRESSING;
     }
     refusal::DONE

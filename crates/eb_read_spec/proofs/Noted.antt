@@ -23,9 +23,9 @@ use Rattle.ie_step_spec.specs.declared.InnerStep.the-variants as inner
 use Rattle.ie_walk_spec.specs.Walk.{blankWalk, seenOf, skipOne, taken, stopped, partTaken, outerGo, groupGo, payloadList}
 use Rattle.ie_walk_spec.specs.declared.Walk.{Walk}
 use Rattle.ie_walk_spec.specs.declared.HeaderListEnd.{HeaderListEnd}
-use Rattle.mac_header_spec.specs.Fields.{macHeaderOf}
+use Rattle.mac_header_spec.specs.Fields.{offsetsOf, macHeaderOf}
 use Rattle.eb_read_spec.specs.declared.Examination.{Examination}
-use Rattle.eb_read_spec.specs.Read.{walkStart, skippedBefore, elementsWalk, examined}
+use Rattle.eb_read_spec.specs.Read.{walkStart, skippedBefore, behindHeader, elementsWalk, examined}
 use Rattle.eb_read_spec.proofs.Each.{each-eq, each-eq-2}
 use Rattle.eb_read_spec.proofs.Within.{outer-within, inner-within}
 
@@ -251,12 +251,12 @@ lists-noted (suc bound) =
     (λ s at end w h. outer-step bound outers groups s at end w h (outerAt s at end) refl (outer-within s at end), λ s at to end w b h. group-step bound outers groups s at to end w b h (innerAt s at to) refl (inner-within s at to))
 
 pub elements-noted : (s : List ℕ) (at end : ℕ) → Noted s end (elementsWalk s at end)
-unfolding elementsWalk payloadList skippedBefore
+unfolding elementsWalk behindHeader payloadList skippedBefore
 elements-noted s at end =
     let P : Walk → Type 0 = λ w. Noted s end w in
     either-eq P _ _ (either-eq P _ _ (start-noted s end _) (noted-besides s end _ (lists-noted _ .0 s _ end _ (blank-noted s end)) _ _ _) _ _) (start-noted s end _) _ _
 
 pub examined-noted : (s : List ℕ) → Noted s (length s) (examined s .walk)
-unfolding examined macHeaderOf
+unfolding examined macHeaderOf offsetsOf
 examined-noted s =
     either-eq (λ (x : Examination). Noted s (length s) (x .walk)) _ _ (elements-noted s (macHeaderOf s .elements) (length s)) (blank-noted s (length s)) _ _

@@ -23,7 +23,7 @@ use Rattle.mac_header_spec.specs.declared.MacHeader.{MacHeader}
 use Rattle.mac_header_spec.specs.Fields.{macHeaderOf}
 use Rattle.eb_read_spec.specs.Policy.{formFault, policyFault, macHeaderFault}
 use Rattle.eb_read_spec.specs.declared.Examination.{Examination}
-use Rattle.eb_read_spec.specs.Read.{walkStart, skippedBefore, elementsWalk, missing, walkNumber, examined}
+use Rattle.eb_read_spec.specs.Read.{walkStart, skippedBefore, behindHeader, elementsWalk, missing, walkNumber, examined}
 
 -- a number from 0 to 8 but 1, as a test that computes at a literal
 abbrev Small : ℕ → Type 0
@@ -184,7 +184,7 @@ both (suc bound) =
     (λ s at end w h. outer-step bound outers groups s at end w h (outerAt s at end) refl (outer-small s at end), λ s at to end w h. group-step bound outers groups s at to end w h (innerAt s at to) refl (inner-small s at to))
 
 pub elements-small : (s : List ℕ) (at end : ℕ) → WalkSmall (elementsWalk s at end)
-unfolding elementsWalk walkStart skippedBefore skippedOver headerList payloadList blankWalk
+unfolding elementsWalk behindHeader walkStart skippedBefore skippedOver headerList payloadList blankWalk
 elements-small s at end =
     let h : Late (headerGo (suc end) s at end .fault) = header-go (suc end) s at end in
     either-eq WalkSmall _ _ (either-eq WalkSmall _ _ h (both _ .0 s _ end blankWalk tt) _ _) h _ _

@@ -17,9 +17,9 @@ use Rattle.ie_walk_spec.specs.Walk.{HeaderList, blankWalk, inFront, skipOne, st
 use Rattle.ie_walk_spec.specs.declared.Walk.{Walk}
 use Rattle.ie_walk_spec.specs.declared.HeaderListEnd.{HeaderListEnd}
 use Rattle.ie_walk_spec.proofs.WalkLaws.{part-counts}
-use Rattle.mac_header_spec.specs.Fields.{macHeaderOf}
+use Rattle.mac_header_spec.specs.Fields.{offsetsOf, macHeaderOf}
 use Rattle.eb_read_spec.specs.Claims.{SkippedFitTheFrame}
-use Rattle.eb_read_spec.specs.Read.{walkStart, skippedBefore, elementsWalk, examined}
+use Rattle.eb_read_spec.specs.Read.{CountsBefore, walkStart, skippedBefore, behindHeader, elementsWalk, examined}
 use Rattle.eb_read_spec.specs.declared.Examination.{Examination}
 use Rattle.eb_read_spec.proofs.Each.{each-eq}
 use Rattle.eb_read_spec.proofs.Within.{header-within, outer-within, inner-within}
@@ -98,16 +98,20 @@ module _ (s : List ℕ) (at end : ℕ) where
   header-alone = omega (arith, header-few (suc end) s at end .few)
 
   elements-few : elementsWalk s at end .skipped ≤ end
-  unfolding elementsWalk walkStart skippedOver skippedBefore
+  unfolding elementsWalk behindHeader walkStart skippedOver skippedBefore
   elements-few =
       let P : Walk → Type 0 = λ w. w .skipped ≤ end in
       either-eq P _ _ (each-eq P _ _ _ _ (λ none. header-alone) (λ some. both-few some)) header-alone _ _
 
-  -- the two counts of the code have a sum
-  pub counts-fit : (head : HeaderListEnd) (w : Walk) → end < 2 ^ 64 → head ≡ skippedOver (headerList s at end) → (head .payload ≡ 0 → ⊥) → w ≡ payloadList s (head .payload) end → head .skipped + w .skipped < 2 ^ 64
-  unfolding skippedOver
-  counts-fit head w small e some f = rw (f, e) (omega (arith, both-few (rw e at some)))
+  -- the elements that the code skips in the header list lie before the payload list
+  pub head-counts : (head : HeaderListEnd) → head ≡ skippedOver (headerList s at end) → CountsBefore head
+  unfolding skippedOver headerList
+  head-counts head e some = rw e (omega (arith, header-few (suc end) s at end .before (rw e at some) .0))
+
+-- the two counts of the code have a sum
+pub counts-fit : (s : List ℕ) (end : ℕ) (head : HeaderListEnd) (w : Walk) → head .payload < 2 ^ 64 → end < 2 ^ 64 → CountsBefore head → (head .payload ≡ 0 → ⊥) → w ≡ payloadList s (head .payload) end → head .skipped + w .skipped < 2 ^ 64
+counts-fit s end head w low small counts some e = rw e (omega (arith, counts some, payload-few s (head .payload) end))
 
 pub skipped-fit-the-frame : SkippedFitTheFrame
-unfolding examined macHeaderOf blankWalk
+unfolding examined macHeaderOf offsetsOf blankWalk
 skipped-fit-the-frame s = either-eq (λ (x : Examination). x .walk .skipped ≤ length s) _ _ (elements-few s (macHeaderOf s .elements) (length s)) (omega arith) _ _

@@ -1,5 +1,6 @@
 -- Reading: the checks in their order, and the record (docs/RULES.md, The order of checks). Assumes nothing.
-use Prim.Native.Nat.{ℕ, _+_}
+use Prim.Native.Nat.{ℕ, _+_, _≤_}
+use mathlib.Core.Path.{_≡_}
 use mathlib.Core.List.{List}
 use Rattle.octets_spec.specs.Choice.{ifEq, ifNe}
 use Rattle.refusal.specs.Refusal.{done, missingOrTwice}
@@ -43,13 +44,20 @@ skippedBefore count walk = record {
   joiningend = walk .joiningend;
 }
 
--- the elements in byte order: the header list, and the payload list if one follows
-unfoldable pub elementsWalk : List ℕ → ℕ → ℕ → Walk
-elementsWalk s at end =
-    let head = skippedOver (headerList s at end) in
+-- behind a header list: the payload list, if one follows
+unfoldable pub behindHeader : List ℕ → HeaderListEnd → ℕ → Walk
+behindHeader s head end =
     ifNe (head .fault) done (walkStart head)
     (ifEq (head .payload) 0 (walkStart head)
     (skippedBefore (head .skipped) (payloadList s (head .payload) end)))
+
+-- the elements in byte order: the header list, and what follows it
+unfoldable pub elementsWalk : List ℕ → ℕ → ℕ → Walk
+elementsWalk s at end = behindHeader s (skippedOver (headerList s at end)) end
+
+-- no more elements stand in a header list than bytes before the payload list
+abbrev pub CountsBefore : HeaderListEnd → Type 0
+CountsBefore head = (head .payload ≡ 0 → ⊥) → head .skipped ≤ head .payload
 
 -- synchronization, timeslot, hopping and slotframe are required
 unfoldable pub missing : Walk → ℕ

@@ -19,8 +19,8 @@ use Rattle.ie_walk_spec.specs.Walk.{blankWalk, skippedOver, seenOf, skipOne, ta
 use Rattle.ie_walk_spec.specs.declared.Walk.{Walk}
 use Rattle.ie_walk_spec.specs.declared.HeaderListEnd.{HeaderListEnd}
 use Rattle.eb_read_spec.specs.declared.Examination.{Examination}
-use Rattle.mac_header_spec.specs.Fields.{macHeaderOf}
-use Rattle.eb_read_spec.specs.Read.{walkStart, skippedBefore, elementsWalk, examined}
+use Rattle.mac_header_spec.specs.Fields.{offsetsOf, macHeaderOf}
+use Rattle.eb_read_spec.specs.Read.{walkStart, skippedBefore, behindHeader, elementsWalk, examined}
 use Rattle.eb_read_spec.proofs.Each.{each-eq}
 use Rattle.eb_read_spec.proofs.Within.{outer-within}
 use Rattle.eb_read_spec.proofs.Noted.{kind-sync-ends, kind-hopping-ends, kind-slotframe-ends}
@@ -208,7 +208,7 @@ unfolding Counts
 later s start from w end h k = omega arith
 
 elements-count : (s : List ℕ) (at end : ℕ) → Counted s at end (elementsWalk s at end)
-unfolding elementsWalk payloadList skippedBefore skippedOver Counts inGroups inJoining bytesAt
+unfolding elementsWalk behindHeader payloadList skippedBefore skippedOver Counts inGroups inJoining bytesAt
 elements-count s at end =
     let P : Walk → Type 0 = λ w. Counted s at end w in
     let head = headerList s at end in
@@ -219,6 +219,6 @@ elements-count s at end =
     (start-none s at end _) _ _
 
 pub examined-count : (s : List ℕ) → (examined s .walk .synchronization ≡ 0 → ⊥) → Counts s (macHeaderOf s .elements + 2) (examined s .walk) (length s)
-unfolding examined macHeaderOf blankWalk
+unfolding examined macHeaderOf offsetsOf blankWalk
 examined-count s =
     either-eq (λ (x : Examination). Counted s (macHeaderOf s .elements) (length s) (x .walk)) _ _ (elements-count s (macHeaderOf s .elements) (length s)) (λ some. absurd (some refl)) _ _

@@ -20,7 +20,7 @@ use Rattle.ie_walk_spec.proofs.ListLaws.{header-start, header-payload, outer-st
 use Rattle.eb_read_spec.specs.Decode.{joiningAt}
 use Rattle.eb_read_spec.proofs.DecodeLaws.{joining-none}
 use Rattle.eb_read_spec.specs.Read.{skippedBefore, elementsWalk, missing}
-use Rattle.eb_read_spec.proofs.ReadLaws.{header-and-payload}
+use Rattle.eb_read_spec.proofs.ReadLaws.{header-and-payload, elements-are}
 use Rattle.eb_write_spec.specs.Frame.{headerDescriptor, joiningSize, joiningBytes, beaconGroupSize, beaconGroup}
 use Rattle.eb_write_spec.proofs.LengthLaws.{length-group}
 use Rattle.eb_round_trip_spec.specs.ReadBack.{Sized}
@@ -65,8 +65,9 @@ module _ (s : List ℕ) (at end : ℕ) (b : Beacon) (sized : Sized b) (w : Withi
   gives : (r : Walk) → OuterIs s to end (pastGroup s (at + 2) end b sized w buffer (group .0)) r → r ≡ elementsWalk s at end
   gives r go =
       let head : HeaderListEnd = record { fault = 0; faulty = 0; skipped = 0; payload = at + 2 } in
-      header-and-payload s at end head (header-payload s at end at 0 (header.Payload (at + 2)) (list .0) (at + 2) refl (header-start s at end)) refl r r (λ (z : at + 2 ≡ 0). omega arith)
-      (payload-is s (at + 2) end blankWalk refl r (omega (arith, buffer)) (group-passes s (at + 2) end b sized w buffer (group .0) r go)) (none-before r)
+      elements-are s at end head r (header-payload s at end at 0 (header.Payload (at + 2)) (list .0) (at + 2) refl (header-start s at end))
+      (header-and-payload s end head refl r r (λ (z : at + 2 ≡ 0). omega arith)
+      (payload-is s (at + 2) end blankWalk refl r (omega (arith, buffer)) (group-passes s (at + 2) end b sized w buffer (group .0) r go)) (none-before r))
 
   abbrev before : Walk
   before = pastGroup s (at + 2) end b sized w buffer (group .0)

@@ -33,26 +33,27 @@ use Rattle.eb_round_trip_spec.proofs.Fitting.{Within}
 written : SequenceNumber → Address → Control
 written q a = record { kind = 0; security = 0; compression = 1; suppressed = suppressedBit q; elements = 1; destination = 2; version = 2; source = sourceMode a }
 
-offsets : SequenceNumber → Address → FieldOffsets
-offsets q a = record {
+offsets : SequenceNumber → Address → ℕ → FieldOffsets
+offsets q a size = record {
   pan = 2 + length (sequenceBytes q);
   destination = 4 + length (sequenceBytes q);
   source = 6 + length (sequenceBytes q);
   elements = 6 + length (sequenceBytes q) + length (sourceBytes a);
+  end = size;
 }
 
-record Worded (q : SequenceNumber) (a : Address) : Type 0 where
+record Worded (q : SequenceNumber) (a : Address) (size : ℕ) : Type 0 where
   fits : controlWord q a < 65536
   control : written q a ≡ controlOf (controlWord q a)
   form : 0 ≡ formFault (written q a)
-  placed : offsets q a ≡ offsetsOf (written q a)
+  placed : offsets q a size ≡ offsetsOf (written q a) size
 
-worded : (q : SequenceNumber) (a : Address) → Worded q a
+worded : (q : SequenceNumber) (a : Address) (size : ℕ) → Worded q a size
 unfolding controlWord suppressedBit sourceMode written controlOf formFault offsets offsetsOf addressLength sequenceBytes sourceBytes leBytes ifEq ifLt
-worded Absent (Short n) = record { fits = omega arith; control = refl; form = refl; placed = refl }
-worded Absent (Extended n) = record { fits = omega arith; control = refl; form = refl; placed = refl }
-worded (Number m) (Short n) = record { fits = omega arith; control = refl; form = refl; placed = refl }
-worded (Number m) (Extended n) = record { fits = omega arith; control = refl; form = refl; placed = refl }
+worded Absent (Short n) size = record { fits = omega arith; control = refl; form = refl; placed = refl }
+worded Absent (Extended n) size = record { fits = omega arith; control = refl; form = refl; placed = refl }
+worded (Number m) (Short n) size = record { fits = omega arith; control = refl; form = refl; placed = refl }
+worded (Number m) (Extended n) size = record { fits = omega arith; control = refl; form = refl; placed = refl }
 
 -- ---- the sequence number and the source
 sequence-reads : (s : List ℕ) (q : SequenceNumber) → sequenceFits q ≡ true → Stands s 2 (sequenceBytes q) → sequenceNumber q ≡ ifEq (suppressedBit q) 0 (getD s 2 0) 0
@@ -84,27 +85,27 @@ source-is (Short n) = refl
 source-is (Extended n) = refl
 
 module _ (s : List ℕ) (b : Beacon) (w : Within b) (few : length s ≤ 125) (h : Stands s 0 (beaconMacHeader b)) where
-  word : Worded (b .sequence) (b .source)
-  word = worded (b .sequence) (b .source)
+  word : Worded (b .sequence) (b .source) (length s)
+  word = worded (b .sequence) (b .source) (length s)
 
   -- the fields in their order
   control : (controlWord (b .sequence) (b .source) ≡ leAt 2 s 0) × Stands s 2 (sequenceBytes (b .sequence) ++ (leBytes 2 (b .pan) ++ (leBytes 2 65535 ++ sourceBytes (b .source))))
   unfolding macHeaderBytes
   control = le-here 2 _ s _ 0 (word .fits) h
 
-  pan : (b .pan ≡ leAt 2 s (offsets (b .sequence) (b .source) .pan)) × Stands s (4 + length (sequenceBytes (b .sequence))) (leBytes 2 65535 ++ sourceBytes (b .source))
+  pan : (b .pan ≡ leAt 2 s (offsets (b .sequence) (b .source) (length s) .pan)) × Stands s (4 + length (sequenceBytes (b .sequence))) (leBytes 2 65535 ++ sourceBytes (b .source))
   unfolding offsets
   pan =
       let read = le-here 2 (b .pan) s (leBytes 2 65535 ++ sourceBytes (b .source)) (2 + length (sequenceBytes (b .sequence))) (w .pan) (stands-rest s (sequenceBytes (b .sequence)) _ 2 (control .1)) in
       (read .0, stands-at s _ _ _ (omega arith) (read .1))
 
-  destination : (65535 ≡ leAt 2 s (offsets (b .sequence) (b .source) .destination)) × Stands s (offsets (b .sequence) (b .source) .source) (sourceBytes (b .source))
+  destination : (65535 ≡ leAt 2 s (offsets (b .sequence) (b .source) (length s) .destination)) × Stands s (offsets (b .sequence) (b .source) (length s) .source) (sourceBytes (b .source))
   unfolding offsets
   destination =
       let read = le-here 2 65535 s (sourceBytes (b .source)) (4 + length (sequenceBytes (b .sequence))) (omega arith) (pan .1) in
       (read .0, stands-at s _ _ _ (omega arith) (read .1))
 
-  whole : offsets (b .sequence) (b .source) .elements ≤ length s
+  whole : offsets (b .sequence) (b .source) (length s) .elements ≤ length s
   unfolding offsets
   whole = omega (arith, stands-bound s (beaconMacHeader b) 0 h, length-mac-header (b .sequence) (b .pan) (b .source))
 
@@ -115,20 +116,20 @@ module _ (s : List ℕ) (b : Beacon) (w : Within b) (few : length s ≤ 125) (h 
     pan = b .pan;
     destination = 65535;
     source = addressNumber (b .source);
-    elements = offsets (b .sequence) (b .source) .elements;
+    elements = offsets (b .sequence) (b .source) (length s) .elements;
     end = length s;
   }
 
   header-is : header ≡ macHeaderOf s
   unfolding header written offsets addressLength ifEq
   header-is =
-      fields s (controlWord (b .sequence) (b .source)) (written (b .sequence) (b .source)) (offsets (b .sequence) (b .source)) (control .0) (word .control) (word .placed) (getD s 2 0) _ _ _ _ _ refl
-      (sequence-reads s (b .sequence) (w .sequence) (stands-first s (sequenceBytes (b .sequence)) _ 2 (control .1))) (pan .0) (destination .0) (source-reads s _ (b .source) (w .source) (destination .1)) refl
+      fields s (controlWord (b .sequence) (b .source)) (written (b .sequence) (b .source)) (offsets (b .sequence) (b .source) (length s)) (control .0) (word .control) (word .placed) (getD s 2 0) _ _ _ _ refl
+      (sequence-reads s (b .sequence) (w .sequence) (stands-first s (sequenceBytes (b .sequence)) _ 2 (control .1))) (pan .0) (destination .0) (source-reads s _ (b .source) (w .source) (destination .1))
 
   pub mac-header-reads : Opens s b
   unfolding header written offsets
   mac-header-reads = record {
-    fine = frame-policy s _ header 0 refl header-is (accepted (length s) header few (omega (arith, whole)) 0 (word .form) refl whole refl);
+    fine = frame-policy s 0 (rw (← header-is) (accepted (length s) header few (omega (arith, whole)) 0 (word .form) refl whole refl));
     offset = length-mac-header (b .sequence) (b .pan) (b .source) ∙ ap (λ (h : MacHeader). h .elements) header-is;
     sequence = sequence-is (b .sequence) (macHeaderOf s) (ap (λ (h : MacHeader). h .control .suppressed) (sym header-is)) (ap (λ (h : MacHeader). h .sequence) (sym header-is));
     pan = ap (λ (h : MacHeader). h .pan) header-is;

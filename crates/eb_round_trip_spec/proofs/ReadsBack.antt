@@ -7,8 +7,7 @@ use lib.ListN.{length}
 use Rattle.octets_spec.specs.Choice.{ifOn}
 use Rattle.eb_record_spec.specs.declared.Beacon.{Beacon}
 use Rattle.ie_walk_spec.specs.declared.Walk.{Walk}
-use Rattle.mac_header_spec.specs.Fields.{macHeaderOf}
-use Rattle.eb_read_spec.specs.Policy.{macHeaderFault}
+use Rattle.mac_header_spec.specs.Fields.{offsetsOf, macHeaderOf}
 use Rattle.eb_read_spec.specs.Decode.{decoded}
 use Rattle.eb_read_spec.proofs.DecodeLaws.{decodes}
 use Rattle.eb_read_spec.specs.Read.{elementsWalk, examined, readFrame}
@@ -51,8 +50,8 @@ module _ (s : List ℕ) (b : Beacon) (ok : Writable b) (is : s ≡ frameOf b) wh
 
   -- ---- the number and the record
   examines : _≡_ {A = Examination} (record { number = 0; walk = walk }) (examined s)
-  unfolding macHeaderFault macHeaderOf
-  examines = examined-walk s (macHeaderOf s) 0 refl (header .fine) walk 0 refl (rw (header .offset) refl) (faultless walk 0 (elements .noted .fine) (elements .noted .all))
+  unfolding macHeaderOf offsetsOf
+  examines = examined-walk s 0 (header .fine) walk 0 refl (rw (header .offset) refl) (faultless walk 0 (elements .noted .fine) (elements .noted .all))
 
   decodes-it : b ≡ decoded s walk
   decodes-it =

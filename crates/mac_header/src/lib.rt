@@ -26,7 +26,7 @@ const VERSION: u64 = 0x1000;
 const SOURCE_MODE: u64 = 0x4000;
 
 // The parts of a frame control word.
-fn control_of(word: u64) -> Control
+pub fn control_of(word: u64) -> Control
     ensures { λ r. ⌜ r ≡ controlOf word ⌝ }
 {
     Control {
@@ -61,9 +61,9 @@ fn pan_offset(suppressed: u64) -> usize
     2
 }
 
-// Where the fields of a frame with this control word are.
-fn offsets_of(control: Control) -> FieldOffsets
-    ensures { λ r. ⌜ r ≡ offsetsOf control ⌝ }
+// Where the fields and the elements of a frame of this size with this control word are.
+pub fn offsets_of(control: Control, size: usize) -> FieldOffsets
+    ensures { λ r. ⌜ r ≡ offsetsOf control size ⌝ }
 {
     let pan = pan_offset(control.suppressed);
     let destination = pan + 2;
@@ -73,6 +73,7 @@ fn offsets_of(control: Control) -> FieldOffsets
         destination,
         source,
         elements: source + address_length(control.source),
+        end: size,
     }
 }
 
@@ -91,7 +92,7 @@ pub fn read(s: &[u8]) -> MacHeader
     ensures short { λ r. ⌜ AddressesFit r ⌝ }
 {
     let control = control_of(octets::get::le(s, 0, 2));
-    let offsets = offsets_of(control);
+    let offsets = offsets_of(control, s.len());
     let pan = offsets.pan;
     let destination = offsets.destination;
     let source = offsets.source;
@@ -102,6 +103,6 @@ pub fn read(s: &[u8]) -> MacHeader
         destination: address(s, control.destination, destination),
         source: address(s, control.source, source),
         elements: offsets.elements,
-        end: s.len(),
+        end: offsets.end,
     }
 }

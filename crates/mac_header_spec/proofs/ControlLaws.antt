@@ -21,10 +21,10 @@ pub controls : (word : ℕ) → record { kind = word % 8; security = word / 8 % 
 unfolding controlOf
 controls word = refl
 
-pub offsets : (control : Control) (pan d n : ℕ) → pan ≡ ifEq (control .suppressed) 0 3 2 → d ≡ addressLength (control .destination) → n ≡ addressLength (control .source)
-    → record { pan = pan; destination = pan + 2; source = pan + 2 + d; elements = pan + 2 + d + n } ≡ offsetsOf control
+pub offsets : (control : Control) (size pan d n : ℕ) → pan ≡ ifEq (control .suppressed) 0 3 2 → d ≡ addressLength (control .destination) → n ≡ addressLength (control .source)
+    → record { pan = pan; destination = pan + 2; source = pan + 2 + d; elements = pan + 2 + d + n; end = size } ≡ offsetsOf control size
 unfolding offsetsOf
-offsets control pan d n e f g = rw (e, f, g)
+offsets control size pan d n e f g = rw (e, f, g)
 
 -- ---- an address, from eight bytes or from two
 module _ (s : List ℕ) (mode at long short r : ℕ) (e : long ≡ leAt 8 s at) (f : short ≡ leAt 2 s at) (g : r ≡ ifEq mode 3 long short) where
@@ -43,11 +43,11 @@ module _ (s : List ℕ) (mode at long short r : ℕ) (e : long ≡ leAt 8 s at) 
 pub sequence-small : (suppressed byte sequence : ℕ) → sequence ≡ ifEq suppressed 0 byte 0 → byte < 256 → Fits w8 sequence
 sequence-small suppressed byte sequence e small = record { fits = rw e (either-eq (λ n. n < 256) byte 0 small (lit< tt) suppressed 0) }
 
-module _ (s : List ℕ) (word : ℕ) (control : Control) (found : FieldOffsets) (e : word ≡ leAt 2 s 0) (f : control ≡ controlOf word) (g : found ≡ offsetsOf control) where
-  pub fields : (byte sequence pan destination source end : ℕ) → byte ≡ getD s 2 0 → sequence ≡ ifEq (control .suppressed) 0 byte 0 → pan ≡ leAt 2 s (found .pan)
-      → destination ≡ leAt (addressLength (control .destination)) s (found .destination) → source ≡ leAt (addressLength (control .source)) s (found .source) → end ≡ length s
-      → record { control = control; sequence = sequence; pan = pan; destination = destination; source = source; elements = found .elements; end = end } ≡ macHeaderOf s
+module _ (s : List ℕ) (word : ℕ) (control : Control) (found : FieldOffsets) (e : word ≡ leAt 2 s 0) (f : control ≡ controlOf word) (g : found ≡ offsetsOf control (length s)) where
+  pub fields : (byte sequence pan destination source : ℕ) → byte ≡ getD s 2 0 → sequence ≡ ifEq (control .suppressed) 0 byte 0 → pan ≡ leAt 2 s (found .pan)
+      → destination ≡ leAt (addressLength (control .destination)) s (found .destination) → source ≡ leAt (addressLength (control .source)) s (found .source)
+      → record { control = control; sequence = sequence; pan = pan; destination = destination; source = source; elements = found .elements; end = found .end } ≡ macHeaderOf s
   unfolding macHeaderOf
-  fields byte sequence pan destination source end h i j k l m = rw (i, h, j, k, l, m, g, f, e) refl
+  fields byte sequence pan destination source h i j k l = rw (i, h, j, k, l, g, f, e) refl
 
 pub ruleset controlling = (choices, controls, offsets, address-is, address-short, sequence-small, fields)

@@ -19,19 +19,20 @@ use Rattle.mac_header_spec.specs.declared.Address.the-variants.{Short, E
 unfoldable pub addressLength : ℕ → ℕ
 addressLength mode = ifEq mode extendedMode 8 2
 
--- the order on air: frame control (2 bytes), sequence number (1, unless suppressed), destination PAN (2), destination, source, elements
-unfoldable pub offsetsOf : Control → FieldOffsets
-offsetsOf control =
+-- the order on air: frame control (2 bytes), sequence number (1, unless suppressed), destination PAN (2), destination, source, and the
+-- elements, which end where the frame of this size does
+unfoldable pub offsetsOf : Control → ℕ → FieldOffsets
+offsetsOf control size =
     let pan : ℕ = ifEq (control .suppressed) 0 3 2 in
     let destination : ℕ = pan + 2 in
     let source : ℕ = destination + addressLength (control .destination) in
-    record { pan = pan; destination = destination; source = source; elements = source + addressLength (control .source) }
+    record { pan = pan; destination = destination; source = source; elements = source + addressLength (control .source); end = size }
 
--- the fields of a frame's MAC header. The elements end where the frame does
+-- the fields of a frame's MAC header, and where the elements start and end
 unfoldable pub macHeaderOf : List ℕ → MacHeader
 macHeaderOf s =
     let control = controlOf (leAt 2 s 0) in
-    let offsets = offsetsOf control in
+    let offsets = offsetsOf control (length s) in
     record {
       control = control;
       sequence = ifEq (control .suppressed) 0 (getD s 2 0) 0;
@@ -39,7 +40,7 @@ macHeaderOf s =
       destination = leAt (addressLength (control .destination)) s (offsets .destination);
       source = leAt (addressLength (control .source)) s (offsets .source);
       elements = offsets .elements;
-      end = length s;
+      end = offsets .end;
     }
 
 -- the sequence number, or that there is none

@@ -20,12 +20,13 @@ pub struct Control {
     pub source: u64,
 }
 
-// Where the fixed fields start, and where the elements start behind them. The sequence number, if any, stands at 2.
+// Where the fixed fields start, and where the elements behind them start and end. The sequence number, if any, stands at 2.
 pub struct FieldOffsets {
     pub pan: usize,
     pub destination: usize,
     pub source: usize,
     pub elements: usize,
+    pub end: usize,
 }
 
 // An address: short (2 bytes) or extended (8 bytes).

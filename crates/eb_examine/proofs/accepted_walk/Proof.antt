@@ -4,11 +4,8 @@ use borrow.Author.Needs.{needs}
 use Rattle.eb_examine.proofs.accepted_walk.Statement.{statement}
 use Rattle.eb_examine.proofs.accepted_walk.Tie as tie
 
-read-requires : tie.Need-read-requires
-read-requires c κs = search needs
-
-policy-fault-requires : tie.Need-policy-fault-requires
-policy-fault-requires c κs = search needs
+mac-header-fault-requires : tie.Need-mac-header-fault-requires
+mac-header-fault-requires c κs = search needs
 
 blank-walk-requires : tie.Need-blank-walk-requires
 blank-walk-requires c κs = search needs
@@ -16,8 +13,11 @@ blank-walk-requires c κs = search needs
 returns : tie.Need-returns
 returns c = search (needs, reading)
 
-elements-walk-requires : tie.Need-elements-walk-requires
-elements-walk-requires c κs = search needs
+header-list-requires : tie.Need-header-list-requires
+header-list-requires c κs = search needs
+
+behind-header-requires : tie.Need-behind-header-requires
+behind-header-requires c κs = search (needs, reading)
 
 walk-number-requires : tie.Need-walk-number-requires
 walk-number-requires c κs = search (needs, reading)
@@ -35,11 +35,11 @@ pub accepted-walk-spec : {M : Type 1} → statement M
 accepted-walk-spec =
     tie.close
     (tie.spec
-    read-requires
-    policy-fault-requires
+    mac-header-fault-requires
     blank-walk-requires
     returns
-    elements-walk-requires
+    header-list-requires
+    behind-header-requires
     walk-number-requires
     blank-walk-requires-2
     returns-2
