@@ -81,7 +81,7 @@ pub fn offsets_of(control: Control, size: usize) -> FieldOffsets
 fn address(s: &[u8], mode: u64, at: usize) -> u64
     ensures { λ r. ⌜ (r ≡ leAt (addressLength mode) (now (s .entry)) at) × ((mode ≡ 3 → ⊥) → r < 0x1_0000) ⌝ }
 {
-    let long = octets::get::le64(s, at);
+    let long = octets::get::le(s, at, 8);
     let short = octets::get::le(s, at, 2);
     octets::choose(mode, mac_header_spec::EXTENDED, long, short)
 }

@@ -1,14 +1,9 @@
 // Numbers in bytes, of any width to 8 and in either order, read at an offset of a lent slice. Every function is total: past the end of the
 // slice a byte reads as 0.
 ghost use mathlib.Core.Path.{_≡_};
-ghost use Prim.Native.Nat.{_+_, _≤_, _<_, _^_, min};
+ghost use Prim.Native.Nat.{_≤_, _<_, _^_, min};
 ghost use lib.ListN.{length, getD};
 ghost use Rattle.octets_spec.specs.Number.{leAt, beAt};
-
-// The value of the lowest bit of the third byte of a number.
-const BYTE_2: u64 = 0x1_0000;
-// The value of the lowest bit of the fifth byte.
-const BYTE_4: u64 = 0x1_0000_0000;
 
 fn wide(value: u8) -> u64
     ensures { λ r. ⌜ (r ≡ value) × (r < 256) ⌝ }
@@ -58,35 +53,6 @@ pub fn le(s: &[u8], at: usize, width: u8) -> u64
         return 0;
     }
     le_within(s, at, at_most_8(width))
-}
-
-// Two bytes that lie inside the slice.
-fn pair_within(s: &[u8], at: usize) -> u64
-    requires { ⌜ at + 2 ≤ length (now s) ⌝ }
-    ensures { λ r. ⌜ (r ≡ leAt 2 (now (s .entry)) at) × (r < 0x1_0000) ⌝ }
-{
-    wide(s[at]) + 0x100 * wide(s[at + 1])
-}
-
-// Four bytes that lie inside the slice.
-fn le32_within(s: &[u8], at: usize) -> u64
-    requires { ⌜ at + 4 ≤ length (now s) ⌝ }
-    ensures { λ r. ⌜ (r ≡ leAt 4 (now (s .entry)) at) × (r < 0x1_0000_0000) ⌝ }
-{
-    pair_within(s, at) + BYTE_2 * pair_within(s, at + 2)
-}
-
-// The number in eight bytes from an offset on, least significant byte first: one load, where all of them lie inside the slice.
-pub fn le64(s: &[u8], at: usize) -> u64
-    ensures { λ r. ⌜ r ≡ leAt 8 (now (s .entry)) at ⌝ }
-{
-    if s.len() < 8 {
-        return le(s, at, 8);
-    }
-    if s.len() - 8 < at {
-        return le(s, at, 8);
-    }
-    le32_within(s, at) + BYTE_4 * le32_within(s, at + 4)
 }
 
 // From the first byte on, which is the most significant.

@@ -41,9 +41,6 @@ module _ (s : List ℕ) (at a b : ℕ) where
   unfolding leAt
   le-five e f = rw (e, f) (omega (arith, le-split 4 1 s at))
 
-  pub le-eight : a ≡ leAt 4 s at → b ≡ leAt 4 s (at + 4) → a + 4294967296 * b ≡ leAt 8 s at
-  le-eight e f = rw (e, f) (sym (le-split 4 4 s at))
-
   pub be-two : a ≡ getD s at 0 → b ≡ getD s (at + 1) 0 → 256 * a + b ≡ beAt 2 s at
   unfolding beAt
   be-two e f = rw (e, f) (omega arith)
@@ -54,4 +51,4 @@ module _ (s : List ℕ) (at a b : ℕ) where
   pub be-eight : a ≡ beAt 4 s at → b ≡ beAt 4 s (at + 4) → 4294967296 * a + b ≡ beAt 8 s at
   be-eight e f = rw (e, f) (sym (be-split 4 4 s at))
 
-pub ruleset splitting = (le-two, le-four, le-five, le-eight, be-two, be-four, be-eight)
+pub ruleset splitting = (le-two, le-four, le-five, be-two, be-four, be-eight)

@@ -4,11 +4,11 @@ use borrow.Author.Needs.{needs}
 use Rattle.mac_header.proofs.address.Statement.{statement}
 use Rattle.mac_header.proofs.address.Tie as tie
 
-le64-requires : tie.Need-le64-requires
-le64-requires c κs = search needs
-
 le-requires : tie.Need-le-requires
 le-requires c κs = search needs
+
+le-requires-2 : tie.Need-le-requires-2
+le-requires-2 c κs = search needs
 
 choose-requires : tie.Need-choose-requires
 choose-requires c κs = search needs
@@ -17,4 +17,4 @@ returns : tie.Need-returns
 returns c = search (needs, controlling)
 
 pub address-spec : {M : Type 1} → statement M
-address-spec = tie.close (tie.spec le64-requires le-requires choose-requires returns)
+address-spec = tie.close (tie.spec le-requires le-requires-2 choose-requires returns)
