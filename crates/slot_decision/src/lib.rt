@@ -16,7 +16,8 @@ pub fn decide(links: &[Link], query: SlotQuery) -> Decision
     ensures decision { λ r. ⌜ r ≡ decision (now (links .entry)) query ⌝ }
     ensures answer { λ r. ⌜ answerOf r ≡ slotAnswer (now (links .entry)) query ⌝ }
 {
-    let seen = crate::scan::scan(links, crate::scan::begin(query));
+    let start = crate::scan::begin(query);
+    let seen = crate::scan::scan(links, start);
     crate::conclusion::conclude(query, links.len(), seen)
 }
 

@@ -164,17 +164,17 @@ module _ {M : Type 1} (𝓤 : URA M) (H : Heap 𝓤) (A : Atoms 𝓤) (W : Given
         nothing ! $ use1 W (raw (Begin 𝓤 H A mem run .pre to-begin)) goes-begin $
         calls-at ! fm (Begin 𝓤 H A mem run) known-begin to-begin (and-then ! (load ! (from ! (stop !)) (look ! 9 refl)) (no-more !)) (λ u.
         result-known ! tt begin.ended (begin.clauses 𝓤 H A mem run) to-begin (λ s. s ≡ begun query) (λ s ws. id⊢ 𝓤 _) u (λ s e₁ is₁.
-        drop ! $ drop ! $ land ! (from ! (stop !)) (init ! 4 refl (LL.lawful S.the-type S′.the-laws 𝓤 H A W .typed s _ is₁ .0)) $
+        drop ! $ drop ! $ land ! (from ! (stop !)) (init ! 6 refl (LL.lawful S.the-type S′.the-laws 𝓤 H A W .typed s _ is₁ .0)) $
         -- `scan`
         use2 W (raw (Scans 𝓤 H A mem run .pre (to-scan s u)) ⊛ ‵ Own) (goes-scan s u is₁) $ split ! $
-        calls-at ! fm (Scans 𝓤 H A mem run) known-scan (to-scan s u) (and-then ! (load ! (from ! (stop !)) (look ! 10 refl)) (and-then ! (load ! (from ! (stop !)) (look ! 4 refl)) (no-more !))) (λ v.
+        calls-at ! fm (Scans 𝓤 H A mem run) known-scan (to-scan s u) (and-then ! (load ! (from ! (stop !)) (look ! 10 refl)) (and-then ! (load ! (from ! (stop !)) (look ! 6 refl)) (no-more !))) (λ v.
         result-known ! tt scan.ended (scan.clauses 𝓤 H A mem run) (to-scan s u) (λ seen. seen ≡ scanned s 0 links) (λ seen ws. id⊢ 𝓤 _) v (λ seen e₂ is₂.
         -- [the token; what the result owns; what the slice owns; _5; ..]
-        use1 W token (id⊢ 𝓤 _) $ move ! (1 ∷ []) $ drop ! $ land ! (from ! (stop !)) (init ! 6 refl (LL.lawful S.the-type S′.the-laws 𝓤 H A W .typed seen _ is₂ .0)) $
+        use1 W token (id⊢ 𝓤 _) $ move ! (1 ∷ []) $ drop ! $ land ! (from ! (stop !)) (init ! 4 refl (LL.lawful S.the-type S′.the-laws 𝓤 H A W .typed seen _ is₂ .0)) $
         assigns ! (of-opd ! (load ! (from ! (fld ! refl (stop !))) (look-in ! 10 (sub ! 1 refl (whole !))))) (from ! (stop !)) (init ! 2 refl (tt, record { fits = room .0 })) $
         -- `conclude`
         nothing ! $ use1 W (raw (Conclude 𝓤 H A mem run .pre (to-conclude seen v))) (goes-conclude seen v is₂) $
-        calls-at ! fm (Conclude 𝓤 H A mem run) known-conclude (to-conclude seen v) (and-then ! (load ! (from ! (stop !)) (look ! 9 refl)) (and-then ! (load ! (from ! (stop !)) (look ! 3 refl)) (and-then ! (load ! (from ! (stop !)) (look ! 7 refl)) (no-more !)))) (λ w.
+        calls-at ! fm (Conclude 𝓤 H A mem run) known-conclude (to-conclude seen v) (and-then ! (load ! (from ! (stop !)) (look ! 9 refl)) (and-then ! (load ! (from ! (stop !)) (look ! 3 refl)) (and-then ! (load ! (from ! (stop !)) (look ! 5 refl)) (no-more !)))) (λ w.
         result-known ! tt conclude.ended (conclude.clauses 𝓤 H A mem run) (to-conclude seen v) (λ r. r ≡ concluded query (length links) seen) (λ r ws. id⊢ 𝓤 _) w (λ r e₃ is₃.
         drop ! $ land ! (from ! (stop !)) (init ! 13 refl (EL.lawful D.the-type D′.the-laws 𝓤 H A W tt .typed r _ is₃ .0)) $
         returns ! (look ! 13 refl) $ forget ! 3 refl $ forget ! 5 refl $ forget ! 7 refl $ forget ! 9 refl $ forget ! 11 refl $ forget ! 13 refl $
