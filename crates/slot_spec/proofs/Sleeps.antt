@@ -1,10 +1,9 @@
 -- The slot decision sleeps exactly when there is nothing to do. Assumes nothing.
-use Prim.Native.Nat.{ℕ, zero, suc, _<_}
+use Prim.Native.Nat.{ℕ, zero, suc}
 use native.Mathlib.Omega.{arith}
 use mathlib.Core.Path.{_≡_, refl, sym, ap}
 use mathlib.Core.Bool.{Bool, true, false, cond, _&&_}
 use mathlib.Core.List.{List, [], _∷_}
-use lib.ListN.{length}
 use Rattle.octets_spec.specs.Choice.{ifOn, ifEq}
 use Rattle.octets_spec.proofs.ChoiceLaws.{by-test, if-off, was-off}
 use Rattle.remainder.specs.Remainder.{remainderOf}
@@ -15,7 +14,7 @@ use Rattle.slot_spec.specs.declared.SlotQuery.{SlotQuery}
 use Rattle.slot_spec.specs.declared.Found.{Found}
 use Rattle.slot_spec.specs.declared.Found.the-variants.{Nothing, At}
 use Rattle.slot_spec.specs.Claims.{NoneActive, SleepsExactlyWhenIdle, SomeSleepAndSomeDoNot}
-use Rattle.slot_spec.specs.Hopping.{channelOf, hopping}
+use Rattle.slot_spec.specs.Hopping.{channelOf}
 use Rattle.slot_spec.specs.Slot.{action, decision, firstActive, isActive, limits, listenOn, optionBit, slotOffset, timeslotsBelow, transmitOn}
 
 -- ---- what is found differs from nothing, and what is done from sleeping

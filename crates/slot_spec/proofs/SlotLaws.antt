@@ -1,6 +1,6 @@
 -- The laws of the slot decision in the shape in which the code meets them: one for each way out of a function, with the results of
 -- its calls as variables. Assumes nothing.
-use Prim.Native.Nat.{ℕ, _-_, _/_, _%_, _^_}
+use Prim.Native.Nat.{ℕ, _/_, _%_}
 use mathlib.Core.Path.{_≡_, refl, sym, _∙_}
 use mathlib.Core.Bool.{Bool, true, false, _&&_, _||_}
 use native.Mathlib.Nat.{div-one}
