@@ -99,7 +99,7 @@ module _ {M : Type 1} (𝓤 : URA M) (H : Heap 𝓤) (A : Atoms 𝓤) (W : Given
   args = (listRef lent, (query, tt))
 
   abbrev at : Vals this.signature (κ, tt)
-  at = ((listValue lent) ∷ [], (query-value ∷ [], tt))
+  at = (listValue lent ∷ [], (query-value ∷ [], tt))
 
   abbrev bound : walkOf 𝓤 H A this.ended stayed (this.clauses 𝓤 H A mem run) .Ghost
   bound = (((κ, tt), (q, tt), tt, args, at), tt)
@@ -121,7 +121,7 @@ module _ {M : Type 1} (𝓤 : URA M) (H : Heap 𝓤) (A : Atoms 𝓤) (W : Given
   goes-begin = qed W [] ∵ nothing ! $ owned ! Q.the-row (Is Q.the-row) (LL.makes Q.the-type Q′.the-plain 𝓤 H A) query (query-value ∷ []) query-is $ fjoin ! $ nothing ! $ join ! $ frame ! $ done !
 
   abbrev to-scan : Scan → Val → Scans 𝓤 H A mem run .Ghost
-  to-scan s u = (((κ, tt), (q, tt), tt, (listRef lent, (s, tt)), ((listValue lent) ∷ [], (u ∷ [], tt))), tt)
+  to-scan s u = (((κ, tt), (q, tt), tt, (listRef lent, (s, tt)), (listValue lent ∷ [], (u ∷ [], tt))), tt)
 
   goes-scan : (s : Scan) (u : Val) → Is S.the-row s (u ∷ []) → ent 𝓤 (⋆ 𝓤 H A (token 𝓤 lent ∷ ‵ (listOwn lent) ∷ [])) (sep 𝓤 (Scans 𝓤 H A mem run .pre (to-scan s u)) (sem 𝓤 H A (listOwn lent)))
   goes-scan s u is = passed-on W lent S.the-row (LL.makes S.the-type S′.the-plain 𝓤 H A) s u is _ (qed W (token 𝓤 lent ∷ ‵ (bothOwn lent S.the-row s u) ∷ []) ∵ join ! $ frame ! $ done !)
@@ -139,9 +139,9 @@ module _ {M : Type 1} (𝓤 : URA M) (H : Heap 𝓤) (A : Atoms 𝓤) (W : Given
     fm : FmC 𝓤 H (W .laws) (𝓣 .C)
     fm = fmOf 𝓤 H (W .laws) 𝓣
 
-    walk : ent 𝓤 (onEntry 𝓤 H A this.signature (κ, tt) (q, tt) args at) (WpFn 𝓤 H (𝓣 .C) (𝓣 .Λ) code.function ((listValue lent) ∷ query-value ∷ []) Post)
+    walk : ent 𝓤 (onEntry 𝓤 H A this.signature (κ, tt) (q, tt) args at) (WpFn 𝓤 H (𝓣 .C) (𝓣 .Λ) code.function (listValue lent ∷ query-value ∷ []) Post)
     walk =
-        qed W (token 𝓤 lent ∷ ‵ (bothOwn lent Q.the-row query query-value) ∷ []) ∵ enter ! (𝓣 .C) (𝓣 .Λ) code.function ((listValue lent) ∷ query-value ∷ []) _ $
+        qed W (token 𝓤 lent ∷ ‵ (bothOwn lent Q.the-row query query-value) ∷ []) ∵ enter ! (𝓣 .C) (𝓣 .Λ) code.function (listValue lent ∷ query-value ∷ []) _ $
         alloc1 ! (λ l₀. alloc1 ! (λ l₁. alloc1 ! (λ l₂. alloc1 ! (λ l₃. alloc1 ! (λ l₄. alloc1 ! (λ l₅. alloc0 ! $ params1 ! $
         pass1 ! (init ! 8 refl (tt, (tt, (record { fits = room .0 }, tt)))) $ pass1 ! (init ! 6 refl (LL.lawful Q.the-type Q′.the-laws 𝓤 H A W .typed query _ query-is .0)) $ pass0 ! $
         -- token and what the slice owns go to the front; then the locals stand _5 at 2, .., _0 at 12

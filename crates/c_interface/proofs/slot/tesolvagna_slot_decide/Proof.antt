@@ -87,7 +87,7 @@ module _ {M : Type 1} (𝓤 : URA M) (H : Heap 𝓤) (A : Atoms 𝓤) (W : Given
   args = (listRef lent, (size, (id, (asn, (waits, tt)))))
 
   abbrev at : Vals this.signature (κ, tt)
-  at = ((listValue lent) ∷ [], (vint w32 size ∷ [], (vint w32 id ∷ [], (vint w64 asn ∷ [], (vbool waits ∷ [], tt)))))
+  at = (listValue lent ∷ [], (vint w32 size ∷ [], (vint w32 id ∷ [], (vint w64 asn ∷ [], (vbool waits ∷ [], tt)))))
 
   abbrev bound : walkOf 𝓤 H A this.ended stayed (this.clauses 𝓤 H A mem run) .Ghost
   bound = (((κ, tt), (q, tt), tt, args, at), tt)
@@ -119,7 +119,7 @@ module _ {M : Type 1} (𝓤 : URA M) (H : Heap 𝓤) (A : Atoms 𝓤) (W : Given
 
   -- what each callee is passed, and that it may be called
   abbrev to-decide : Decide 𝓤 H A mem run .Ghost
-  to-decide = (((κ, tt), (q, tt), tt, (listRef lent, (query, tt)), ((listValue lent) ∷ [], (query-value ∷ [], tt))), tt)
+  to-decide = (((κ, tt), (q, tt), tt, (listRef lent, (query, tt)), (listValue lent ∷ [], (query-value ∷ [], tt))), tt)
 
   goes-decide : ent 𝓤 (⋆ 𝓤 H A (token 𝓤 lent ∷ ‵ (listOwn lent) ∷ [])) (sep 𝓤 (Decide 𝓤 H A mem run .pre to-decide) (sem 𝓤 H A (listOwn lent)))
   goes-decide = passed-on W lent Q.the-row (LL.makes Q.the-type Q′.the-plain 𝓤 H A) query query-value query-is _ (qed W (token 𝓤 lent ∷ ‵ (bothOwn lent Q.the-row query query-value) ∷ []) ∵ join ! $ frame ! $ done !)
@@ -134,9 +134,9 @@ module _ {M : Type 1} (𝓤 : URA M) (H : Heap 𝓤) (A : Atoms 𝓤) (W : Given
     fm : FmC 𝓤 H (W .laws) (𝓣 .C)
     fm = fmOf 𝓤 H (W .laws) 𝓣
 
-    walk : ent 𝓤 (onEntry 𝓤 H A this.signature (κ, tt) (q, tt) args at) (WpFn 𝓤 H (𝓣 .C) (𝓣 .Λ) code.function ((listValue lent) ∷ vint w32 size ∷ vint w32 id ∷ vint w64 asn ∷ vbool waits ∷ []) Post)
+    walk : ent 𝓤 (onEntry 𝓤 H A this.signature (κ, tt) (q, tt) args at) (WpFn 𝓤 H (𝓣 .C) (𝓣 .Λ) code.function (listValue lent ∷ vint w32 size ∷ vint w32 id ∷ vint w64 asn ∷ vbool waits ∷ []) Post)
     walk =
-        qed W (token 𝓤 lent ∷ ‵ (owns (ShrSlice (named 0) κ L.the-row ∷ u32 ∷ u32 ∷ u64 ∷ bool ∷ []) args at) ∷ []) ∵ enter ! (𝓣 .C) (𝓣 .Λ) code.function ((listValue lent) ∷ vint w32 size ∷ vint w32 id ∷ vint w64 asn ∷ vbool waits ∷ []) _ $
+        qed W (token 𝓤 lent ∷ ‵ (owns (ShrSlice (named 0) κ L.the-row ∷ u32 ∷ u32 ∷ u64 ∷ bool ∷ []) args at) ∷ []) ∵ enter ! (𝓣 .C) (𝓣 .Λ) code.function (listValue lent ∷ vint w32 size ∷ vint w32 id ∷ vint w64 asn ∷ vbool waits ∷ []) _ $
         alloc1 ! (λ l₀. alloc1 ! (λ l₁. alloc1 ! (λ l₂. alloc1 ! (λ l₃. alloc1 ! (λ l₄. alloc1 ! (λ l₅. alloc1 ! (λ l₆. alloc1 ! (λ l₇. alloc0 ! $ params1 ! $
         pass1 ! (init ! 12 refl (tt, (tt, (record { fits = room .0 }, tt)))) $ pass1 ! (init ! 10 refl (tt, record { fits = size-fits })) $ pass1 ! (init ! 8 refl (tt, record { fits = id-fits })) $ pass1 ! (init ! 6 refl (tt, record { fits = asn-fits })) $ pass1 ! (init ! 4 refl (tt, tt)) $ pass0 ! $
         -- token and what the slice owns go to the front; then the locals stand _7 at 2, .., _0 at 16

@@ -116,7 +116,7 @@ module _ {M : Type 1} (𝓤 : URA M) (H : Heap 𝓤) (A : Atoms 𝓤) (W : Given
   args = (listRef lent, (start, tt))
 
   abbrev at : Vals this.signature (κ, tt)
-  at = ((listValue lent) ∷ [], (start-value ∷ [], tt))
+  at = (listValue lent ∷ [], (start-value ∷ [], tt))
 
   abbrev bound : walkOf 𝓤 H A this.ended stayed (this.clauses 𝓤 H A mem run) .Ghost
   bound = (((κ, tt), (q, tt), tt, args, at), tt)
@@ -246,9 +246,9 @@ module _ {M : Type 1} (𝓤 : URA M) (H : Heap 𝓤) (A : Atoms 𝓤) (W : Given
       around : (t : St) → Sq W (At t) (runs C Λ En mir.t-3 (atRet En Post))
       around t = first ! $ blocks ! $ loops ! 𝓣 Nearer Nearer-wf At turns t
 
-    walk : ent 𝓤 (onEntry 𝓤 H A this.signature (κ, tt) (q, tt) args at) (WpFn 𝓤 H C Λ code.function ((listValue lent) ∷ start-value ∷ []) Post)
+    walk : ent 𝓤 (onEntry 𝓤 H A this.signature (κ, tt) (q, tt) args at) (WpFn 𝓤 H C Λ code.function (listValue lent ∷ start-value ∷ []) Post)
     walk =
-        qed W (token 𝓤 lent ∷ ‵ (owns (ShrSlice (named 0) κ L.the-row ∷ S.the-row ∷ []) args at) ∷ []) ∵ enter ! C Λ code.function ((listValue lent) ∷ start-value ∷ []) _ $
+        qed W (token 𝓤 lent ∷ ‵ (owns (ShrSlice (named 0) κ L.the-row ∷ S.the-row ∷ []) args at) ∷ []) ∵ enter ! C Λ code.function (listValue lent ∷ start-value ∷ []) _ $
         alloc1 ! (λ l₀. alloc1 ! (λ l₁. alloc1 ! (λ l₂. alloc1 ! (λ l₃. alloc1 ! (λ l₄. alloc1 ! (λ l₅. alloc1 ! (λ l₆. alloc1 ! (λ l₇. alloc1 ! (λ l₈. alloc0 ! $ params1 ! $
         pass1 ! (init ! 14 refl (tt, (tt, (record { fits = room .0 }, tt)))) $ pass1 ! (init ! 12 refl (LL.lawful S.the-type S′.the-laws 𝓤 H A W .typed start _ start-is .0)) $ pass0 ! $
         move ! (19 ∷ []) $ fsplit ! $ move ! (1 ∷ []) $ drop ! $ move ! (19 ∷ 0 ∷ []) $
