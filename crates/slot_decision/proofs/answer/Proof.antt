@@ -1,8 +1,8 @@
--- `slot_decision::slots::answer` meets its contract. Assumes nothing.
+-- `slot_decision::answer` meets its contract. Assumes nothing.
 use borrow.Author.Needs.{needs}
 use Rattle.slot_spec.proofs.SlotLaws.{answers-refused, slots}
-use Rattle.slot_decision.proofs.slots.answer.Statement.{statement}
-use Rattle.slot_decision.proofs.slots.answer.Tie as tie
+use Rattle.slot_decision.proofs.answer.Statement.{statement}
+use Rattle.slot_decision.proofs.answer.Tie as tie
 
 enum-told : tie.Need-enum-told
 enum-told c = search needs
