@@ -130,4 +130,7 @@ module _ (s : List ℕ) (x : Examination) (e : x ≡ examined s) where
   unfolding readFrame
   read-done b good f = rw (← e) (if-eq _ _ _ _ good (rw f))
 
-pub ruleset reading = (choices, counts-fit, heads, behinds, header-faulty, header-only, header-and-payload, head-counts, elements-are, starts-are, ends-are, behind-at, list-at, walk-small, some-missing, none-missing, faulty, faultless, examined-mac-header, examined-walk, unexamined, refused-walk, accepted-walk, read-refused, read-done)
+pub ruleset starting = (heads, behinds)
+pub ruleset following = (counts-fit, header-faulty, header-only, header-and-payload, starts-are, ends-are, behind-at, list-at)
+pub ruleset judging = (some-missing, none-missing, faulty, faultless)
+pub ruleset examining = (head-counts, elements-are, walk-small, examined-mac-header, examined-walk, unexamined, refused-walk, accepted-walk)

@@ -1,5 +1,5 @@
 -- `eb_examine::accepted_walk` meets its contract. Assumes nothing.
-use Rattle.eb_read_spec.proofs.ReadLaws.{reading}
+use Rattle.eb_read_spec.proofs.ReadLaws.{examining}
 use borrow.Author.Needs.{needs}
 use Rattle.eb_examine.proofs.accepted_walk.Statement.{statement}
 use Rattle.eb_examine.proofs.accepted_walk.Tie as tie
@@ -11,25 +11,25 @@ blank-walk-requires : tie.Need-blank-walk-requires
 blank-walk-requires c κs = search needs
 
 returns : tie.Need-returns
-returns c = search (needs, reading)
+returns c = search (needs, examining)
 
 header-list-requires : tie.Need-header-list-requires
 header-list-requires c κs = search needs
 
 behind-header-requires : tie.Need-behind-header-requires
-behind-header-requires c κs = search (needs, reading)
+behind-header-requires c κs = search (needs, examining)
 
 walk-number-requires : tie.Need-walk-number-requires
-walk-number-requires c κs = search (needs, reading)
+walk-number-requires c κs = search (needs, examining)
 
 blank-walk-requires-2 : tie.Need-blank-walk-requires-2
 blank-walk-requires-2 c κs = search needs
 
 returns-2 : tie.Need-returns-2
-returns-2 c = search (needs, reading)
+returns-2 c = search (needs, examining)
 
 returns-3 : tie.Need-returns-3
-returns-3 c = search (needs, reading)
+returns-3 c = search (needs, examining)
 
 pub accepted-walk-spec : {M : Type 1} → statement M
 accepted-walk-spec =

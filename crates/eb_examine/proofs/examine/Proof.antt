@@ -1,6 +1,6 @@
 -- `eb_examine::examine` meets its contract. Assumes nothing.
 use Rattle.eb_read_spec.proofs.Accepted.{accepted-lies-inside}
-use Rattle.eb_read_spec.proofs.ReadLaws.{reading}
+use Rattle.eb_read_spec.proofs.ReadLaws.{examining}
 use borrow.Author.Needs.{needs}
 use Rattle.eb_examine.proofs.examine.Statement.{statement}
 use Rattle.eb_examine.proofs.examine.Tie as tie
@@ -12,19 +12,19 @@ blank-walk-requires : tie.Need-blank-walk-requires
 blank-walk-requires c κs = search needs
 
 returns : tie.Need-returns
-returns c = (search (needs, reading), accepted-lies-inside)
+returns c = (search (needs, examining), accepted-lies-inside)
 
 header-list-requires : tie.Need-header-list-requires
 header-list-requires c κs = search needs
 
 behind-header-requires : tie.Need-behind-header-requires
-behind-header-requires c κs = search (needs, reading)
+behind-header-requires c κs = search (needs, examining)
 
 walk-number-requires : tie.Need-walk-number-requires
-walk-number-requires c κs = search (needs, reading)
+walk-number-requires c κs = search (needs, examining)
 
 returns-2 : tie.Need-returns-2
-returns-2 c = (search (needs, reading), accepted-lies-inside)
+returns-2 c = (search (needs, examining), accepted-lies-inside)
 
 pub examine-spec : {M : Type 1} → statement M
 examine-spec =

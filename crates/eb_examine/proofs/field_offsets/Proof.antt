@@ -1,5 +1,5 @@
 -- `eb_examine::field_offsets` meets its contract. Assumes nothing.
-use Rattle.eb_read_spec.proofs.ReadLaws.{reading}
+use Rattle.eb_read_spec.proofs.ReadLaws.{following}
 use borrow.Author.Needs.{needs}
 use Rattle.eb_examine.proofs.field_offsets.Statement.{statement}
 use Rattle.eb_examine.proofs.field_offsets.Tie as tie
@@ -14,7 +14,7 @@ offsets-of-requires : tie.Need-offsets-of-requires
 offsets-of-requires c κs = search needs
 
 returns : tie.Need-returns
-returns c = search (needs, reading)
+returns c = search (needs, following)
 
 pub field-offsets-spec : {M : Type 1} → statement M
 field-offsets-spec =

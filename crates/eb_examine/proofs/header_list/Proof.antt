@@ -1,5 +1,5 @@
 -- `eb_examine::header_list` meets its contract. Assumes nothing.
-use Rattle.eb_read_spec.proofs.ReadLaws.{reading}
+use Rattle.eb_read_spec.proofs.ReadLaws.{following}
 use borrow.Author.Needs.{needs}
 use Rattle.eb_examine.proofs.header_list.Statement.{statement}
 use Rattle.eb_examine.proofs.header_list.Tie as tie
@@ -11,7 +11,7 @@ header-list-requires : tie.Need-header-list-requires
 header-list-requires c κs = search needs
 
 returns : tie.Need-returns
-returns c = search (needs, reading)
+returns c = search (needs, following)
 
 pub header-list-spec : {M : Type 1} → statement M
 header-list-spec = tie.close (tie.spec field-offsets-requires header-list-requires returns)

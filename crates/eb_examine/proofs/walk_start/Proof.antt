@@ -1,11 +1,11 @@
 -- `eb_examine::walk_start` meets its contract. Assumes nothing.
 use borrow.Author.Needs.{needs}
-use Rattle.eb_read_spec.proofs.ReadLaws.{reading}
+use Rattle.eb_read_spec.proofs.ReadLaws.{starting}
 use Rattle.eb_examine.proofs.walk_start.Statement.{statement}
 use Rattle.eb_examine.proofs.walk_start.Tie as tie
 
 returns : tie.Need-returns
-returns c = search (needs, reading)
+returns c = search (needs, starting)
 
 pub walk-start-spec : {M : Type 1} → statement M
 walk-start-spec = tie.close (tie.spec returns)
