@@ -1,0 +1,14 @@
+pub mod Stands
+pub mod Slices
+pub mod Rowed
+pub mod SaidSteps
+pub mod StepsOf
+pub mod Notes
+pub mod SoundLists
+pub mod CompleteLists
+pub mod Synchronized
+pub mod Timed
+pub mod Linked
+pub mod Joined
+pub mod Opened
+pub mod Agreed

@@ -1,0 +1,33 @@
+-- The grammar and reading agree on every list of bytes (docs/RULES.md, The frame). Assumes nothing.
+use Prim.Native.Nat.{ℕ}
+use mathlib.Core.Path.{_≡_}
+use mathlib.Core.List.{List}
+use lib.ListN.{take}
+use Rattle.refusal.specs.Refusal.{done}
+use Rattle.eb_record_spec.specs.declared.Beacon.{Beacon}
+use Rattle.eb_read_spec.specs.Read.{readFrame}
+use Rattle.eb_read_spec.specs.Claims.{Bytes}
+use Rattle.eb_read_spec.specs.Witnesses.{shortest, shortestRecord}
+use Rattle.eb_grammar_spec.specs.Grammar.{Accepts}
+
+-- what reading accepts is a frame of the grammar, and says the record that reading gives
+abbrev pub Sound : Type 0
+Sound = (frame : List ℕ) (beacon : Beacon) → Bytes frame → readFrame frame ≡ record { number = done; beacon = beacon } → Accepts frame beacon
+
+-- a frame of the grammar is accepted, and reading gives what it says
+abbrev pub Complete : Type 0
+Complete = (frame : List ℕ) (beacon : Beacon) → Bytes frame → Accepts frame beacon → readFrame frame ≡ record { number = done; beacon = beacon }
+
+-- a list of bytes says at most one record
+abbrev pub Unambiguous : Type 0
+Unambiguous = (frame : List ℕ) (one other : Beacon) → Bytes frame → Accepts frame one → Accepts frame other → one ≡ other
+
+-- a list of bytes is refused exactly when it says no record
+abbrev pub RefusedSaysNothing : Type 0
+RefusedSaysNothing =
+    (frame : List ℕ) → Bytes frame →
+    ((readFrame frame .number ≡ done → ⊥) → (beacon : Beacon) → Accepts frame beacon → ⊥) × (((beacon : Beacon) → Accepts frame beacon → ⊥) → readFrame frame .number ≡ done → ⊥)
+
+-- the frame of 38 bytes is of the grammar, and without its last byte it says nothing
+abbrev pub ShortestIsOfTheGrammar : Type 0
+ShortestIsOfTheGrammar = Accepts shortest shortestRecord × ((beacon : Beacon) → Accepts (take 37 shortest) beacon → ⊥)
