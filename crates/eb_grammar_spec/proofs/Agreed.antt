@@ -28,7 +28,7 @@ use Rattle.eb_read_spec.proofs.Witnessed.{shortest-is-read, shortest-bytes}
 use Rattle.eb_read_spec.proofs.Accepted.{Required, accepted-required, accepted-decoded}
 use Rattle.eb_read_spec.proofs.ReadLaws.{header-and-payload, faultless, examined-walk, read-done}
 use Rattle.eb_grammar_spec.proofs.Stands.{Stands}
-use Rattle.eb_grammar_spec.specs.Grammar.{Element, contents, HeaderElements, PayloadElements, JoiningContent, absent, Accepts}
+use Rattle.eb_grammar_spec.specs.Grammar.{Descriptor, Element, contents, HeaderElements, PayloadElements, JoiningContent, absent, Accepts}
 use Rattle.eb_grammar_spec.specs.Claims.{Sound, Complete, Unambiguous, RefusedSaysNothing, ShortestIsOfTheGrammar}
 use Rattle.eb_grammar_spec.proofs.Slices.{part}
 use Rattle.eb_grammar_spec.proofs.Notes.{unseen, One, Kept, Notes, notes-none}
@@ -43,10 +43,13 @@ use Rattle.eb_grammar_spec.proofs.Opened.{Opens, opens-of, OpeningSays,
 -- ---- sound
 record Element-in (s : List ℕ) (at : ℕ) (w : Walk) : Type 0 where
   header : List ℕ
+  low : ℕ
+  high : ℕ
   payload : List ℕ
   found : List Element
-  splits : part s at (length s - at) ≡ header ++ payload
+  splits : part s at (length s - at) ≡ header ++ (low ∷ high ∷ payload)
   skips : HeaderElements header
+  follows : Descriptor 7 low high 0 126 0
   lists : PayloadElements payload found
   notes : Notes s w found
 
@@ -60,8 +63,8 @@ module _ (s : List ℕ) (bytes : Bytes s) where
       (λ good. each-eq P _ _ (head .payload) 0 (λ none fine some. absurd (some refl))
       (λ follows fine some.
       let h = header-sound s bytes at (length s) follows in
-      let o = payload-sound s bytes (head .payload) (length s) (walkStart head) [] (h .low) (omega arith) (notes-none s head) fine in
-      record { header = h .header; payload = part s (head .payload) (length s - head .payload); found = o .more; splits = h .splits; skips = h .skips; lists = o .list; notes = o .notes }))
+      let o = payload-sound s bytes (head .payload) (length s) (walkStart head) [] (h .within) (omega arith) (notes-none s head) fine in
+      record { header = h .header; low = h .low; high = h .high; payload = part s (head .payload) (length s - head .payload); found = o .more; splits = h .splits; skips = h .skips; follows = h .follows; lists = o .list; notes = o .notes }))
       (λ bad fine some. absurd (some refl))
 
   record Examined (w : Walk) : Type 0 where
@@ -101,12 +104,15 @@ module _ (s : List ℕ) (bytes : Bytes s) where
       record {
         fields = o .fields;
         header = f .header;
+        low = f .low;
+        high = f .high;
         payload = f .payload;
         found = f .found;
         at-most-125 = short;
         stands = o .frame ∙ ap (λ (xs : List ℕ). o .fields ++ xs) (f .splits);
         opens = o .says;
         skips = f .skips;
+        follows = f .follows;
         lists = f .lists;
         says = record {
           synchronization = (sync .content, sync .only, sync-says s _ (sync .content) (sync .stands) (passed 26 _ _ _ sync));
@@ -130,8 +136,8 @@ sound s b bytes e =
 
 -- ---- complete
 module _ (s : List ℕ) (b : Beacon) (bytes : Bytes s) (a : Accepts s b) where
-  opening : Opens s (b .sequence) (b .pan) (b .source) (a .header ++ a .payload)
-  opening = opens-of s (a .at-most-125) (a .fields) (a .header ++ a .payload) (b .sequence) (b .pan) (b .source) (a .opens) (a .stands)
+  opening : Opens s (b .sequence) (b .pan) (b .source) (a .header ++ (a .low ∷ a .high ∷ a .payload))
+  opening = opens-of s (a .at-most-125) (a .fields) (a .header ++ (a .low ∷ a .high ∷ a .payload)) (b .sequence) (b .pan) (b .source) (a .opens) (a .stands)
 
   abbrev at : ℕ
   at = opening .place
@@ -140,7 +146,7 @@ module _ (s : List ℕ) (b : Beacon) (bytes : Bytes s) (a : Accepts s b) where
   hopping-once = a .says .hopping .1 ∙ ap (λ (c : List ℕ). c ∷ []) (a .says .hopping .2)
 
   heading : HeaderPasses s (a .payload) at (length s)
-  heading = header-passes s (a .payload) (a .header) (a .skips) at (length s) at 0 (opening .stands) (opening .ends) (header-start s at (length s))
+  heading = header-passes s (a .payload) (a .low) (a .high) (a .follows) at (length s) (a .header) (a .skips) at 0 (opening .stands) (opening .ends) (header-start s at (length s))
 
   allowed : (k : ℕ) (c : List ℕ) → contents k (a .found) ≡ c ∷ [] → Fine s k c → Allowed s k (a .found)
   allowed k c only fine d before after e =

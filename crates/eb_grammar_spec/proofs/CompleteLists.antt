@@ -21,7 +21,7 @@ use Rattle.ie_walk_spec.specs.declared.Walk.{Walk}
 use Rattle.ie_walk_spec.specs.declared.HeaderListEnd.{HeaderListEnd}
 use Rattle.ie_walk_spec.proofs.ListLaws.{HeaderLeads, header-payload, header-turn, outer-start, outer-none, outer-enter, joining-turn, skip-turn, GroupLeads, group-start, group-back, part-turn}
 use Rattle.eb_grammar_spec.proofs.Stands.{Stands, stands-first, stands-rest, stands-at}
-use Rattle.eb_grammar_spec.specs.Grammar.{Element, contents, SubDescriptor, SubElements, group-end, sub-element, PayloadElements, bytes-end, payload-end, mlme, ietf-element, other-group, HeaderElements, header-end, header-element}
+use Rattle.eb_grammar_spec.specs.Grammar.{Descriptor, Element, contents, SubDescriptor, SubElements, group-end, sub-element, PayloadElements, bytes-end, payload-end, mlme, ietf-element, other-group, HeaderElements, header-end, header-element}
 use Rattle.eb_grammar_spec.proofs.StepsOf.{sub-step, group-step, payload-end-step, payload-step, header-step}
 use Rattle.eb_grammar_spec.proofs.Notes.{unseen, split-sync, split-timeslot, split-hopping, split-slotframe, split-joining, Kept, Notes, contents-append, notes-skip, notes-other, notes-taken}
 
@@ -230,19 +230,21 @@ module _ (s : List ℕ) where
     pub stands : Stands s place payload
     pub ends : place + length payload ≡ end
 
-  pub header-passes : (payload xs : List ℕ) → HeaderElements xs → (at end i n : ℕ) → Stands s i (xs ++ payload) → i + length (xs ++ payload) ≡ end → HeaderLeads s at end i n → HeaderPasses payload at end
-  header-passes payload _ (header-end a b d) at end i n h e leads = record {
-    place = i + 2;
-    count = n;
-    is = header-payload s at end i n (header.Payload (i + 2)) (payload-step s i end a b payload h (omega (arith, e)) d) (i + 2) refl leads;
-    some = λ z. omega (arith, z);
-    stands = behind-head a b i payload h;
-    ends = omega (arith, e);
-  }
-  header-passes payload _ (header-element a b id c {rest} d not-126 not-127 more) at end i n h e leads =
-      let to : ℕ = i + 2 + length c in
-      let here : Stands s i (a ∷ b ∷ (c ++ (rest ++ payload))) = rw (append-assoc c rest payload) at h in
-      let long : to + length (rest ++ payload) ≡ end = omega (arith, rw (append-assoc c rest payload) at e, length-append c (rest ++ payload)) in
-      let fit : to ≤ end = omega (arith, long) in
-      header-passes payload rest more at end to (bump n) (behind-all a b i c (rest ++ payload) here) long
-      (header-turn s at end i n (header.Element id (i + 2) to) (header-step s i end a b (c ++ (rest ++ payload)) here (length c) fit id d not-126 not-127) id (i + 2) to refl (omega arith, omega arith, fit) (bump n) refl leads)
+  module _ (payload : List ℕ) (low high : ℕ) (d : Descriptor 7 low high 0 126 0) (at end : ℕ) where
+    pub header-passes : (xs : List ℕ) → HeaderElements xs → (i n : ℕ) → Stands s i (xs ++ (low ∷ high ∷ payload)) → i + length (xs ++ (low ∷ high ∷ payload)) ≡ end → HeaderLeads s at end i n → HeaderPasses payload at end
+    header-passes _ header-end i n h e leads = record {
+      place = i + 2;
+      count = n;
+      is = header-payload s at end i n (header.Payload (i + 2)) (payload-step s i end low high payload h (omega (arith, e)) d) (i + 2) refl leads;
+      some = λ z. omega (arith, z);
+      stands = behind-head low high i payload h;
+      ends = omega (arith, e);
+    }
+    header-passes _ (header-element a b id c {rest} d not-126 not-127 more) i n h e leads =
+        let to : ℕ = i + 2 + length c in
+        let behind : List ℕ = rest ++ (low ∷ high ∷ payload) in
+        let here : Stands s i (a ∷ b ∷ (c ++ behind)) = rw (append-assoc c rest (low ∷ high ∷ payload)) at h in
+        let long : to + length behind ≡ end = omega (arith, rw (append-assoc c rest (low ∷ high ∷ payload)) at e, length-append c behind) in
+        let fit : to ≤ end = omega (arith, long) in
+        header-passes rest more to (bump n) (behind-all a b i c behind here) long
+        (header-turn s at end i n (header.Element id (i + 2) to) (header-step s i end a b (c ++ behind) here (length c) fit id d not-126 not-127) id (i + 2) to refl (omega arith, omega arith, fit) (bump n) refl leads)

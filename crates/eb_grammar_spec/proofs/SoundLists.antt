@@ -188,9 +188,12 @@ module _ (s : List ℕ) (bytes : Bytes s) where
   -- ---- the header list
   pub record HeaderGives (at end : ℕ) (r : HeaderListEnd) : Type 0 where
     pub header : List ℕ
+    pub low : ℕ
+    pub high : ℕ
     pub skips : HeaderElements header
-    pub low : r .payload ≤ end
-    pub splits : part s at (end - at) ≡ header ++ part s (r .payload) (end - r .payload)
+    pub follows : Descriptor 7 low high 0 126 0
+    pub within : r .payload ≤ end
+    pub splits : part s at (end - at) ≡ header ++ (low ∷ high ∷ part s (r .payload) (end - r .payload))
 
   header-step : (bound at end n : ℕ) → ((to n : ℕ) → (headerGo bound s to end n .payload ≡ 0 → ⊥) → HeaderGives to end (headerGo bound s to end n)) → (o : HeaderStep) → headerAt s at end ≡ o → HeaderSays o s at end
       → (headerGo (suc bound) s at end n .payload ≡ 0 → ⊥) → HeaderGives at end (headerGo (suc bound) s at end n)
@@ -198,9 +201,12 @@ module _ (s : List ℕ) (bytes : Bytes s) where
   header-step bound at end n go header.End e k = rw (e, headerGo) (λ some. absurd (some refl))
   header-step bound at end n go (header.Payload from) e (starts, low, d) =
       rw (e, headerGo) (λ some. record {
-        header = getD s at 0 ∷ getD s (at + 1) 0 ∷ [];
-        skips = header-end (getD s at 0) (getD s (at + 1) 0) d;
-        low = low;
+        header = [];
+        low = getD s at 0;
+        high = getD s (at + 1) 0;
+        skips = header-end;
+        follows = d;
+        within = low;
         splits = part-element s at 0 end (omega (arith, starts, low))
             ∙ ap (λ (xs : List ℕ). getD s at 0 ∷ getD s (at + 1) 0 ∷ xs) (part-at s (at + 2 + 0) from (end - (at + 2 + 0)) (end - from) (omega (arith, starts)) (omega (arith, starts)));
       })
@@ -212,6 +218,9 @@ module _ (s : List ℕ) (bytes : Bytes s) where
         header = getD s at 0 ∷ getD s (at + 1) 0 ∷ (c ++ g .header);
         skips = header-element (getD s at 0) (getD s (at + 1) 0) id c (rw (length-part s (at + 2) (l .size)) (l .says .0)) (l .says .1) (l .says .2) (g .skips);
         low = g .low;
+        high = g .high;
+        follows = g .follows;
+        within = g .within;
         splits = part-element s at (l .size) end (omega (arith, l .ends, l .fits))
             ∙ ap (λ (xs : List ℕ). getD s at 0 ∷ getD s (at + 1) 0 ∷ xs) (ap (λ (xs : List ℕ). c ++ xs) (part-at s (at + 2 + l .size) to (end - (at + 2 + l .size)) (end - to) (sym (l .ends)) (omega (arith, l .ends)) ∙ g .splits) ∙ sym (append-assoc c (g .header) _));
       })

@@ -60,12 +60,10 @@ pub record Descriptor (split low high size id top : ℕ) : Type 0 where
   pub length-fits : size < 2 ^ split
   pub id-fits : id < 2 ^ (15 - split)
 
--- header elements: bits 0-6 length, 7-14 ID, 15 zero. (Where ID 0x7F or the end of the bytes ends the list, no payload follows, and the
--- required elements are missing: no such frame is accepted)
+-- header elements: bits 0-6 length, 7-14 ID, 15 zero
 pub data HeaderElements : List ℕ → Type 0 where
-  -- ID 0x7E, without a length, ends the header list: payload elements follow
-  header-end : (low high : ℕ) → Descriptor 7 low high 0 0x7E 0 → HeaderElements (low ∷ high ∷ [])
-  -- others are skipped
+  header-end : HeaderElements []
+  -- all are skipped, but those that end the list: ID 0x7E, and 0x7F, behind which no payload elements follow
   header-element : (low high id : ℕ) (content : List ℕ) {rest : List ℕ} → Descriptor 7 low high (length content) id 0 → (id ≡ 0x7E → ⊥) → (id ≡ 0x7F → ⊥) → HeaderElements rest
       → HeaderElements (low ∷ high ∷ (content ++ rest))
 
@@ -178,15 +176,19 @@ pub record Says (found : List Element) (beacon : Beacon) : Type 0 where
   -- joining information, IETF subtype 2
   pub joining : JoiningContent (contents (ietf 2) found) (beacon .joining)
 
--- a frame that is accepted, and the record that it says: at most 125 bytes; fixed fields, header elements, payload elements
+-- a frame that is accepted, and the record that it says: at most 125 bytes; the fixed fields, header elements, the header ID 0x7E without
+-- a length, payload elements
 pub record Accepts (frame : List ℕ) (beacon : Beacon) : Type 0 where
   pub fields : List ℕ
   pub header : List ℕ
+  pub low : ℕ
+  pub high : ℕ
   pub payload : List ℕ
   pub found : List Element
   pub at-most-125 : length frame ≤ 125
-  pub stands : frame ≡ fields ++ (header ++ payload)
+  pub stands : frame ≡ fields ++ (header ++ (low ∷ high ∷ payload))
   pub opens : FixedFields fields (beacon .sequence) (beacon .pan) (beacon .source)
   pub skips : HeaderElements header
+  pub follows : Descriptor 7 low high 0 0x7E 0
   pub lists : PayloadElements payload found
   pub says : Says found beacon

@@ -31,7 +31,7 @@ use Rattle.eb_write_spec.proofs.LengthLaws.{length-le, length-be, length-templa
 use Rattle.eb_round_trip_spec.specs.ReadBack.{Writable}
 use Rattle.eb_round_trip_spec.proofs.Fitting.{SynchronizationWithin, TemplateWithin, LinkWithin, SlotframeWithin, PresentWithin, Within, within-limits, below-at}
 use Rattle.eb_grammar_spec.specs.Row.{le, be, bits, Row, last, next}
-use Rattle.eb_grammar_spec.specs.Grammar.{Descriptor, Element, contents, short-id, long-id, SubElements, group-end, sub-element, PayloadElements, bytes-end, mlme, ietf-element, HeaderElements, header-end, TimeslotContent, id-alone, timed-25, timed-27, Links, no-links, one-link, SlotframeContent, slotframe, JoiningContent, absent, joining, Says, FrameControl, SequenceBytes, numbered, suppressed, SourceBytes, short-source, extended-source, FixedFields, fixed-fields, Accepts}
+use Rattle.eb_grammar_spec.specs.Grammar.{Descriptor, Element, contents, short-id, long-id, SubElements, group-end, sub-element, PayloadElements, bytes-end, mlme, ietf-element, header-end, TimeslotContent, id-alone, timed-25, timed-27, Links, no-links, one-link, SlotframeContent, slotframe, JoiningContent, absent, joining, Says, FrameControl, SequenceBytes, numbered, suppressed, SourceBytes, short-source, extended-source, FixedFields, fixed-fields, Accepts}
 
 -- ---- numbers
 le-of : (width n : ℕ) → n < 256 ^ width → le (leBytes width n) ≡ n
@@ -360,10 +360,6 @@ module _ (b : Beacon) (ok : Writable b) where
       let d : Descriptor 11 (n % 256) (n / 256 % 256) (length group-content) 1 1 = rw long (describes 11 size 1 1 n (omega arith) (omega (arith, small)) small (omega arith)) in
       mlme (n % 256) (n / 256 % 256) {content = group-content} d subs (tail .list)
 
-  header : HeaderElements (headerDescriptor 126 0)
-  unfolding headerDescriptor leBytes
-  header = header-end 0 63 (describes 7 0 126 0 16128 refl (omega arith) (omega arith) (omega arith))
-
   says : Says found b
   unfolding contents ifEq
   says = record {
@@ -375,16 +371,19 @@ module _ (b : Beacon) (ok : Writable b) where
   }
 
   pub derived : Accepts (frameOf b) b
-  unfolding frameOf
+  unfolding frameOf headerDescriptor leBytes
   derived = record {
     fields = macHeaderBytes (b .sequence) (b .pan) (b .source);
-    header = headerDescriptor 126 0;
+    header = [];
+    low = 0;
+    high = 63;
     payload = groupBytes (b .synchronization) (b .timeslot) (b .hopping) (b .slotframe) ++ joiningBytes (b .joining);
     found = found;
     at-most-125 = ok .short;
     stands = refl;
     opens = opens (b .sequence) (b .pan) (b .source) (limits .sequence) (limits .pan) (limits .source);
-    skips = header;
+    skips = header-end;
+    follows = describes 7 0 126 0 16128 refl (omega arith) (omega arith) (omega arith);
     lists = payload;
     says = says;
   }
