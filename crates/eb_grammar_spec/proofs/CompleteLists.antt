@@ -21,7 +21,7 @@ use Rattle.ie_walk_spec.specs.declared.Walk.{Walk}
 use Rattle.ie_walk_spec.specs.declared.HeaderListEnd.{HeaderListEnd}
 use Rattle.ie_walk_spec.proofs.ListLaws.{HeaderLeads, header-payload, header-turn, outer-start, outer-none, outer-enter, joining-turn, skip-turn, GroupLeads, group-start, group-back, part-turn}
 use Rattle.eb_grammar_spec.proofs.Stands.{Stands, stands-first, stands-rest, stands-at}
-use Rattle.eb_grammar_spec.specs.Grammar.{Descriptor, Element, contents, SubDescriptor, SubElements, group-end, sub-element, PayloadElements, bytes-end, payload-end, mlme, ietf-element, other-group, HeaderElements, header-end, header-element}
+use Rattle.eb_grammar_spec.specs.Grammar.{Descriptor, Element, contents, SubDescriptor, SubElements, group-end, sub-element, PayloadElements, bytes-end, payload-end, payload-element, mlme, ietf-element, other-group, HeaderElements, header-end, header-element}
 use Rattle.eb_grammar_spec.proofs.StepsOf.{sub-step, group-step, payload-end-step, payload-step, header-step}
 use Rattle.eb_grammar_spec.proofs.Notes.{unseen, split-sync, split-timeslot, split-hopping, split-slotframe, split-joining, Kept, Notes, contents-append, notes-skip, notes-other, notes-taken}
 
@@ -166,7 +166,7 @@ module _ (s : List ℕ) where
     notes = rw (append-nil before) n;
     good = good;
   }
-  outers-pass _ _ (mlme a b {content} {rest} {inside} {found} d group list) at end w before h e n allows good =
+  outers-pass _ _ (payload-element a b _ content {rest} {inside} {found} d not-15 (mlme group) list) at end w before h e n allows good =
       let to : ℕ = at + 2 + length content in
       let long : to + length rest ≡ end = omega (arith, e, length-append content rest) in
       let fit : to ≤ end = omega (arith, long) in
@@ -180,7 +180,7 @@ module _ (s : List ℕ) where
         notes = rw (append-assoc before inside found) at (o .notes);
         good = o .good;
       }
-  outers-pass _ _ (ietf-element a b subtype c {rest} {found} d list) at end w before h e n allows good =
+  outers-pass _ _ (payload-element a b _ _ {rest} {inside = _} {found} d not-15 (ietf-element subtype c) list) at end w before h e n allows good =
       let size : ℕ = suc (length c) in
       let to : ℕ = at + 2 + size in
       let y : Element = record { kind = 256 + subtype; content = c } in
@@ -214,7 +214,7 @@ module _ (s : List ℕ) where
       let noted = notes-other s w before y (λ (z : 256 + subtype ≡ 258). not-2 (omega arith)) (omega arith) n in
       let o = outers-pass rest found list to end (skipOne w) (before ++ (y ∷ [])) behind long (notes-skip s w (before ++ (y ∷ [])) noted) (rw (append-snoc before y found) allows) good in
       skips at to end w (before ++ (y ∷ found)) (omega arith) fit step (rw (append-snoc before y found) at o))
-  outers-pass _ _ (other-group a b group c {rest} {found} d not-1 not-5 not-15 list) at end w before h e n allows good =
+  outers-pass _ _ (payload-element a b group c {rest} {inside = _} {found} d not-15 (other-group not-1 not-5) list) at end w before h e n allows good =
       let to : ℕ = at + 2 + length c in
       let long : to + length rest ≡ end = omega (arith, e, length-append c rest) in
       let fit : to ≤ end = omega (arith, long) in

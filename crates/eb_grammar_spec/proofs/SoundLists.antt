@@ -21,7 +21,7 @@ use Rattle.ie_walk_spec.specs.declared.Walk.{Walk}
 use Rattle.ie_walk_spec.specs.declared.HeaderListEnd.{HeaderListEnd}
 use Rattle.eb_read_spec.specs.Claims.{Bytes}
 use Rattle.eb_read_spec.proofs.Each.{each-eq}
-use Rattle.eb_grammar_spec.specs.Grammar.{Descriptor, Element, SubElements, group-end, sub-element, PayloadElements, bytes-end, payload-end, mlme, ietf-element, other-group, HeaderElements, header-end, header-element}
+use Rattle.eb_grammar_spec.specs.Grammar.{Descriptor, Element, SubElements, group-end, sub-element, PayloadElements, bytes-end, payload-end, payload-element, mlme, ietf-element, other-group, HeaderElements, header-end, header-element}
 use Rattle.eb_grammar_spec.proofs.Slices.{part, length-part, part-at, stands-part, part-element}
 use Rattle.eb_grammar_spec.proofs.SaidSteps.{InnerSays, Ietf, Skipped, OuterSays, HeaderSays, inner-says, outer-says, header-says}
 use Rattle.eb_grammar_spec.proofs.Notes.{Notes, notes-skip, notes-other, notes-taken}
@@ -92,7 +92,7 @@ module _ (s : List ℕ) (bytes : Bytes s) where
       ietf-grows size subtype room (some, d) is rest found e list =
           let one : size ≡ suc (size - 1) = omega arith in
           rw (part-ietf at size (size - 1) end one room, is, ← e)
-          (ietf-element (getD s at 0) (getD s (at + 1) 0) subtype (part s (at + 2 + 1) (size - 1)) (let sized : suc (length (part s (at + 2 + 1) (size - 1))) ≡ size = omega (arith, length-part s (at + 2 + 1) (size - 1)) in rw sized d) list)
+          (payload-element (getD s at 0) (getD s (at + 1) 0) 5 (subtype ∷ part s (at + 2 + 1) (size - 1)) (let sized : suc (length (part s (at + 2 + 1) (size - 1))) ≡ size = omega (arith, length-part s (at + 2 + 1) (size - 1)) in rw sized d) (λ (z : _≡_ {A = ℕ} 5 15). omega arith) (ietf-element subtype (part s (at + 2 + 1) (size - 1))) list)
 
       outer-step : (o : OuterStep) → outerAt s at end ≡ o → OuterSays o s at end → outerGo (suc bound) s at end w .fault ≡ 0 → OuterGives at end found (outerGo (suc bound) s at end w)
       unfolding outerGo stopped
@@ -105,7 +105,7 @@ module _ (s : List ℕ) (bytes : Bytes s) where
           let list = subst (λ xs. PayloadElements xs (g .more)) (part-at s to (at + 2 + k .size) (end - to) (end - (at + 2 + k .size)) (k .ends) (omega (arith, k .ends))) (g .list) in
           record {
             more = g .inside ++ g .more;
-            list = rw (part-element s at (k .size) end (omega (arith, k .ends, k .fits))) (mlme (getD s at 0) (getD s (at + 1) 0) {content = part s (at + 2) (k .size)} (rw (length-part s (at + 2) (k .size)) (k .says)) inner list);
+            list = rw (part-element s at (k .size) end (omega (arith, k .ends, k .fits))) (payload-element (getD s at 0) (getD s (at + 1) 0) 1 (part s (at + 2) (k .size)) (rw (length-part s (at + 2) (k .size)) (k .says)) (λ (z : _≡_ {A = ℕ} 1 15). omega arith) (mlme inner) list);
             notes = g .notes;
           })
       outer-step (outer.Joining from to) e (starts, l, is) =
@@ -137,7 +137,7 @@ module _ (s : List ℕ) (bytes : Bytes s) where
               let list = subst (λ xs. PayloadElements xs (g .more)) (part-at s to (at + 2 + l .size) (end - to) (end - (at + 2 + l .size)) (l .ends) (omega (arith, l .ends))) (g .list) in
               record {
                 more = g .more;
-                list = rw (part-element s at (l .size) end (omega (arith, l .ends, l .fits))) (other-group (getD s at 0) (getD s (at + 1) 0) group (part s (at + 2) (l .size)) (rw (length-part s (at + 2) (l .size)) d) not-1 not-5 not-15 list);
+                list = rw (part-element s at (l .size) end (omega (arith, l .ends, l .fits))) (payload-element (getD s at 0) (getD s (at + 1) 0) group (part s (at + 2) (l .size)) (rw (length-part s (at + 2) (l .size)) d) not-15 (other-group not-1 not-5) list);
                 notes = g .notes;
               }
       outer-step (outer.Fault number) e k = rw (e, outerGo) (λ good. absurd (k good))

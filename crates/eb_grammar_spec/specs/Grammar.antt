@@ -94,21 +94,24 @@ pub data SubElements : List ℕ → List Element → Type 0 where
   sub-element : (low high kind : ℕ) (content : List ℕ) {rest : List ℕ} {found : List Element} → SubDescriptor low high (length content) kind → SubElements rest found
       → SubElements (low ∷ high ∷ (content ++ rest)) (record { kind = kind; content = content } ∷ found)
 
+-- what a payload element holds, by its group
+pub data Group : ℕ → List ℕ → List Element → Type 0 where
+  -- group 1 (MLME) holds sub-elements
+  mlme : {content : List ℕ} {inside : List Element} → SubElements content inside → Group 1 content inside
+  -- group 5 (IETF) has a subtype byte first, and so a length of at least 1
+  ietf-element : (subtype : ℕ) (content : List ℕ) → Group 5 (subtype ∷ content) (record { kind = ietf subtype; content = content } ∷ [])
+  -- other groups are skipped
+  other-group : {group : ℕ} {content : List ℕ} → (group ≡ 1 → ⊥) → (group ≡ 5 → ⊥) → Group group content []
+
 -- payload elements: bits 0-10 length, 11-14 group, 15 one
 pub data PayloadElements : List ℕ → List Element → Type 0 where
   -- the end of the bytes ends the list
   bytes-end : PayloadElements [] []
   -- group 15, without a length, ends it too: later bytes are ignored
   payload-end : (low high : ℕ) (ignored : List ℕ) → Descriptor 11 low high 0 15 1 → PayloadElements (low ∷ high ∷ ignored) []
-  -- group 1 (MLME) holds sub-elements; behind it the list goes on
-  mlme : (low high : ℕ) {content rest : List ℕ} {inside found : List Element} → Descriptor 11 low high (length content) 1 1 → SubElements content inside → PayloadElements rest found
-      → PayloadElements (low ∷ high ∷ (content ++ rest)) (inside ++ found)
-  -- group 5 (IETF) has a subtype byte first, and so a length of at least 1
-  ietf-element : (low high subtype : ℕ) (content : List ℕ) {rest : List ℕ} {found : List Element} → Descriptor 11 low high (suc (length content)) 5 1 → PayloadElements rest found
-      → PayloadElements (low ∷ high ∷ subtype ∷ (content ++ rest)) (record { kind = ietf subtype; content = content } ∷ found)
-  -- other groups are skipped
-  other-group : (low high group : ℕ) (content : List ℕ) {rest : List ℕ} {found : List Element} → Descriptor 11 low high (length content) group 1
-      → (group ≡ 1 → ⊥) → (group ≡ 5 → ⊥) → (group ≡ 15 → ⊥) → PayloadElements rest found → PayloadElements (low ∷ high ∷ (content ++ rest)) found
+  -- behind an element of another group the list goes on
+  payload-element : (low high group : ℕ) (content : List ℕ) {rest : List ℕ} {inside found : List Element} → Descriptor 11 low high (length content) group 1 → (group ≡ 15 → ⊥)
+      → Group group content inside → PayloadElements rest found → PayloadElements (low ∷ high ∷ (content ++ rest)) (inside ++ found)
 
 -- ---- the known elements: their contents, and what they say
 -- timeslot

@@ -31,7 +31,7 @@ use Rattle.eb_write_spec.proofs.LengthLaws.{length-le, length-be, length-templa
 use Rattle.eb_round_trip_spec.specs.ReadBack.{Writable}
 use Rattle.eb_round_trip_spec.proofs.Fitting.{SynchronizationWithin, TemplateWithin, LinkWithin, SlotframeWithin, PresentWithin, Within, within-limits, below-at}
 use Rattle.eb_grammar_spec.specs.Row.{le, be, bits, Row, last, next}
-use Rattle.eb_grammar_spec.specs.Grammar.{Descriptor, Element, contents, short-id, long-id, SubElements, group-end, sub-element, PayloadElements, bytes-end, mlme, ietf-element, header-end, TimeslotContent, id-alone, timed-25, timed-27, Links, no-links, one-link, SlotframeContent, slotframe, JoiningContent, absent, joining, Says, FrameControl, SequenceBytes, numbered, suppressed, SourceBytes, short-source, extended-source, FixedFields, fixed-fields, Accepts}
+use Rattle.eb_grammar_spec.specs.Grammar.{Descriptor, Element, contents, short-id, long-id, SubElements, group-end, sub-element, PayloadElements, bytes-end, payload-element, mlme, ietf-element, header-end, TimeslotContent, id-alone, timed-25, timed-27, Links, no-links, one-link, SlotframeContent, slotframe, JoiningContent, absent, joining, Says, FrameControl, SequenceBytes, numbered, suppressed, SourceBytes, short-source, extended-source, FixedFields, fixed-fields, Accepts}
 
 -- ---- numbers
 le-of : (width n : ℕ) → n < 256 ^ width → le (leBytes width n) ≡ n
@@ -298,7 +298,7 @@ tail-there j sized there w =
     let long : suc (length c) ≡ joiningSize j = omega (arith, joining-bytes-length j sized there w) in
     let small : joiningSize j < 2048 = omega (arith, flag-small (j .proxied), w .few) in
     let d : Descriptor 11 (n % 256) (n / 256 % 256) (suc (length c)) 5 1 = rw long (describes 11 (joiningSize j) 5 1 n (omega arith) (omega (arith, small)) small (omega arith)) in
-    let list : PayloadElements (n % 256 ∷ n / 256 % 256 ∷ 2 ∷ c) (record { kind = 258; content = c } ∷ []) = rw (append-nil c) at (ietf-element (n % 256) (n / 256 % 256) 2 c d bytes-end) in
+    let list : PayloadElements (n % 256 ∷ n / 256 % 256 ∷ 2 ∷ c) (record { kind = 258; content = c } ∷ []) = rw (append-nil c) at (payload-element (n % 256) (n / 256 % 256) 5 (2 ∷ c) d (λ (z : _≡_ {A = ℕ} 5 15). omega arith) (ietf-element 2 c) bytes-end) in
     record {
       found = record { kind = 258; content = c } ∷ [];
       list = subst (λ xs. PayloadElements xs (record { kind = 258; content = c } ∷ [])) (bytes-are j sized there w) list;
@@ -358,7 +358,7 @@ module _ (b : Beacon) (ok : Writable b) where
       let long : length group-content ≡ size = omega (arith, length-group (b .synchronization) (b .timeslot) (b .hopping) (b .slotframe) (ok .sized .timings) (ok .sized .links) (limits .slotframe .few)) in
       let small : size < 2048 = omega (arith, template-small (b .timeslot), limits .slotframe .few) in
       let d : Descriptor 11 (n % 256) (n / 256 % 256) (length group-content) 1 1 = rw long (describes 11 size 1 1 n (omega arith) (omega (arith, small)) small (omega arith)) in
-      mlme (n % 256) (n / 256 % 256) {content = group-content} d subs (tail .list)
+      payload-element (n % 256) (n / 256 % 256) 1 group-content d (λ (z : _≡_ {A = ℕ} 1 15). omega arith) (mlme subs) (tail .list)
 
   says : Says found b
   unfolding contents ifEq
