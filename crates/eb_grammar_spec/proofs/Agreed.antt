@@ -4,8 +4,7 @@ use mathlib.Core.Path.{_≡_, refl, sym, _∙_, ap, subst}
 use mathlib.Core.List.{List, [], _∷_, _++_}
 use mathlib.Core.Logic.{inl, inr}
 use native.Mathlib.Omega.{arith}
-use lib.Dec.{lit<}
-use lib.ListN.{length, take}
+use lib.ListN.{length}
 use Rattle.octets_spec.proofs.ChoiceLaws.{if-ne}
 use Rattle.eb_record_spec.specs.Record.{blankJoining}
 use Rattle.eb_record_spec.specs.declared.Beacon.{Beacon}
@@ -23,13 +22,11 @@ use Rattle.eb_read_spec.specs.declared.Examination.{Examination}
 use Rattle.eb_read_spec.specs.declared.ReadAnswer.{ReadAnswer}
 use Rattle.eb_read_spec.proofs.Each.{each-eq}
 use Rattle.eb_read_spec.proofs.Claimed.{number-of}
-use Rattle.eb_read_spec.specs.Witnesses.{shortest}
-use Rattle.eb_read_spec.proofs.Witnessed.{shortest-is-read, shortest-bytes}
 use Rattle.eb_read_spec.proofs.Accepted.{Required, accepted-required, accepted-decoded}
 use Rattle.eb_read_spec.proofs.ReadLaws.{header-and-payload, faultless, examined-walk, read-done}
 use Rattle.eb_grammar_spec.proofs.Stands.{Stands}
 use Rattle.eb_grammar_spec.specs.Grammar.{Descriptor, Element, contents, HeaderElements, PayloadElements, JoiningContent, absent, Accepts}
-use Rattle.eb_grammar_spec.specs.Claims.{Sound, Complete, Unambiguous, RefusedSaysNothing, ShortestIsOfTheGrammar}
+use Rattle.eb_grammar_spec.specs.Claims.{Sound, Complete, Unambiguous, RefusedSaysNothing}
 use Rattle.eb_grammar_spec.proofs.Slices.{part}
 use Rattle.eb_grammar_spec.proofs.Notes.{unseen, One, Kept, Notes, notes-none}
 use Rattle.eb_grammar_spec.proofs.SoundLists.{payload-sound, header-sound}
@@ -231,16 +228,4 @@ pub refused-says-nothing : RefusedSaysNothing
 refused-says-nothing s bytes = (
   λ refused b a. refused (ap (λ (r : ReadAnswer). r .number) (complete s b bytes a)),
   λ nothing done. nothing (readFrame s .beacon) (sound s (readFrame s .beacon) bytes (λ i. record { number = done i; beacon = readFrame s .beacon })),
-)
-
-take-bytes : (n : ℕ) (s : List ℕ) → Bytes s → Bytes (take n s)
-take-bytes zero s bytes i = lit< tt
-take-bytes (suc n) [] bytes i = lit< tt
-take-bytes (suc n) (x ∷ xs) bytes zero = bytes 0
-take-bytes (suc n) (x ∷ xs) bytes (suc i) = take-bytes n xs (λ j. bytes (suc j)) i
-
-pub shortest-is-of-the-grammar : ShortestIsOfTheGrammar
-shortest-is-of-the-grammar = (
-  sound shortest _ shortest-bytes (shortest-is-read .0),
-  λ b a. let two : _≡_ {A = ℕ} 2 0 = ap (λ (r : ReadAnswer). r .number) (sym (shortest-is-read .1) ∙ complete (take 37 shortest) b (take-bytes 37 shortest shortest-bytes) a) in absurd (omega (arith, two)),
 )

@@ -12,3 +12,6 @@ pub mod Linked
 pub mod Joined
 pub mod Opened
 pub mod Agreed
+pub mod Unique
+pub mod Followed
+pub mod Witnessed

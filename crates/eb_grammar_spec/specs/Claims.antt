@@ -2,12 +2,10 @@
 use Prim.Native.Nat.{ℕ}
 use mathlib.Core.Path.{_≡_}
 use mathlib.Core.List.{List}
-use lib.ListN.{take}
 use Rattle.refusal.specs.Refusal.{done}
 use Rattle.eb_record_spec.specs.declared.Beacon.{Beacon}
 use Rattle.eb_read_spec.specs.Read.{readFrame}
 use Rattle.eb_read_spec.specs.Claims.{Bytes}
-use Rattle.eb_read_spec.specs.Witnesses.{shortest, shortestRecord}
 use Rattle.eb_grammar_spec.specs.Grammar.{Accepts}
 
 -- what reading accepts is a frame of the grammar, and says the record that reading gives
@@ -27,7 +25,3 @@ abbrev pub RefusedSaysNothing : Type 0
 RefusedSaysNothing =
     (frame : List ℕ) → Bytes frame →
     ((readFrame frame .number ≡ done → ⊥) → (beacon : Beacon) → Accepts frame beacon → ⊥) × (((beacon : Beacon) → Accepts frame beacon → ⊥) → readFrame frame .number ≡ done → ⊥)
-
--- the frame of 38 bytes is of the grammar, and without its last byte it says nothing
-abbrev pub ShortestIsOfTheGrammar : Type 0
-ShortestIsOfTheGrammar = Accepts shortest shortestRecord × ((beacon : Beacon) → Accepts (take 37 shortest) beacon → ⊥)
