@@ -12,6 +12,7 @@ pub mod Linked
 pub mod Joined
 pub mod Opened
 pub mod Agreed
+pub mod SaidLaws
 pub mod Unique
 pub mod Followed
 pub mod Witnessed
