@@ -26,7 +26,7 @@ use Rattle.eb_grammar_spec.proofs.Slices.{part, part-at, part-append, p
 use Rattle.eb_grammar_spec.proofs.Notes.{unseen}
 use Rattle.eb_grammar_spec.proofs.Rowed.{countFrom, padded-count}
 
-nothing : (xs : List ℕ) → length xs ≡ 0 → be xs ≡ 0
+pub nothing : (xs : List ℕ) → length xs ≡ 0 → be xs ≡ 0
 unfolding be
 nothing [] e = refl
 nothing (x ∷ xs) e = absurd (omega (arith, e))

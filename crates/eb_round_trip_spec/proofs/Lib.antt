@@ -1,13 +1,12 @@
 pub mod ListLaws
+pub mod AllBytes
 pub mod Fits
-pub mod Behind
-pub mod Counts
 pub mod NotLonger
-pub mod Witness
 pub mod Fitting
 pub mod OfTheGrammar
 pub mod FrameLengths
 pub mod ReadsBack
+pub mod Witness
 pub mod Shortest
 pub mod RoundTripLaws
 pub mod FormsWritten

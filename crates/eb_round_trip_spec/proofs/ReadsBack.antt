@@ -4,8 +4,7 @@ use mathlib.Core.Path.{_≡_, refl, sym, _∙_, ap}
 use mathlib.Core.Bool.{Bool, true, false, and-eq-true-iff}
 use mathlib.Core.List.{List, [], _∷_, _++_}
 use native.Mathlib.Omega.{arith}
-use borrow.Author.Tests.{ltb-true}
-use lib.Dec.{lit<, ltb}
+use lib.Dec.{ltb}
 use lib.ListN.{take}
 use Rattle.octets_spec.specs.Choice.{ifOn}
 use Rattle.octets_spec.specs.Number.{leBytes, beBytes}
@@ -19,29 +18,16 @@ use Rattle.eb_record_spec.specs.declared.Slotframe.{Slotframe}
 use Rattle.eb_record_spec.specs.declared.JoiningInformation.{JoiningInformation}
 use Rattle.eb_record_spec.specs.declared.Beacon.{Beacon}
 use Rattle.eb_write_spec.specs.Frame.{sequenceBytes, sourceBytes, macHeaderBytes, headerDescriptor, groupDescriptor, shortDescriptor, longDescriptor, numbersIn, synchronizationBytes, timingsBytes, templateBytes, hoppingBytes, linkBytes, linksBytes, slotframeBytes, groupBytes, joiningBytes, frameOf}
-use Rattle.eb_write_spec.specs.Limits.{allOf, allBelow, addressFits, presentFits, absentFits, joiningFits, fits}
+use Rattle.eb_write_spec.specs.Limits.{allBelow, addressFits, presentFits, absentFits, joiningFits, fits}
 use Rattle.eb_read_spec.specs.Claims.{Bytes}
 use Rattle.eb_read_spec.specs.Read.{readFrame}
 use Rattle.eb_read_spec.specs.declared.ReadAnswer.{ReadAnswer}
 use Rattle.eb_round_trip_spec.proofs.Fitting.{on-on}
 use Rattle.eb_write_spec.proofs.LengthLaws.{joining-on}
 use Rattle.eb_round_trip_spec.specs.ReadBack.{FramesReadBack, FramesDiffer, WrittenIsOfTheGrammar}
+use Rattle.eb_round_trip_spec.proofs.AllBytes.{All, none, more, bytes-of, both, all-below}
 use Rattle.eb_round_trip_spec.proofs.OfTheGrammar.{derived}
 use Rattle.eb_grammar_spec.proofs.Agreed.{complete}
-
--- every entry is a byte
-data All : List ℕ → Type 0 where
-  none : All []
-  more : {x : ℕ} {xs : List ℕ} → x < 256 → All xs → All (x ∷ xs)
-
-bytes-of : (xs : List ℕ) → All xs → Bytes xs
-bytes-of _ none i = lit< tt
-bytes-of _ (more h all) zero = h
-bytes-of _ (more {xs} h all) (suc i) = bytes-of xs all i
-
-both : {xs ys : List ℕ} → All xs → All ys → All (xs ++ ys)
-both none b = b
-both (more h all) b = more h (both all b)
 
 all-on : (test : Bool) (xs ys : List ℕ) → (test ≡ true → All xs) → (test ≡ false → All ys) → All (ifOn test xs ys)
 unfolding ifOn
@@ -90,11 +76,6 @@ all-template t = both (all-le 2 _) (both (all-le 1 _) (all-on (t .timed) _ _ (λ
 all-slotframe : (f : Slotframe) → All (slotframeBytes f)
 unfolding slotframeBytes shortDescriptor
 all-slotframe f = both (all-le 2 _) (both (all-le 1 _) (both (all-le 1 _) (both (all-le 2 _) (both (all-le 1 _) (all-links _)))))
-
-all-below : (ns : List ℕ) → allBelow 256 ns ≡ true → All ns
-unfolding allBelow allOf
-all-below [] e = none
-all-below (n ∷ ns) e = let k = and-eq-true-iff (ltb n 256) _ .0 e in more (ltb-true n 256 (k .0)) (all-below ns (k .1))
 
 network-below : (j : JoiningInformation) → presentFits j ≡ true → allBelow 256 (take (j .length) (j .network)) ≡ true
 unfolding presentFits
