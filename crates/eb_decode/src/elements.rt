@@ -97,7 +97,7 @@ pub(crate) fn template_at(s: &[u8], at: usize, to: usize) -> TimeslotTemplate
     TimeslotTemplate {
         id,
         timed: true,
-        timings: timings_within(s, at, fixed::choose(size as u64, 27, 1, 0) as usize),
+        timings: timings_within(s, at, octets::choose(size as u64, 27, 1, 0) as usize),
     }
 }
 
@@ -166,7 +166,7 @@ fn proxy_address(s: &[u8], at: usize, proxied: u64) -> u64
         }
         return 0;
     }
-    fixed::choose(proxied, 1, fixed::be64(s, at - 4 + 8 * proxied as usize), 0)
+    octets::choose(proxied, 1, fixed::be64(s, at - 4 + 8 * proxied as usize), 0)
 }
 
 // Joining information, which lies from an offset to another; at offset 0 there is none.

@@ -1,25 +1,13 @@
-// Numbers of fixed widths at offsets that are known to lie inside a slice: read without a test, so that a number is one load; and a
-// choice between two numbers.
+// Numbers of fixed widths at offsets that are known to lie inside a slice: read without a test, so that a number is one load.
 ghost use mathlib.Core.Path.{_≡_};
 ghost use Prim.Native.Nat.{_+_, _/_, _%_, _≤_, _<_};
 ghost use lib.ListN.{length, getD};
-ghost use Rattle.octets_spec.specs.Choice.{ifEq};
 ghost use Rattle.octets_spec.specs.Number.{leAt, beAt};
 
 // The value of the lowest bit of the third byte of a number.
 const BYTE_2: u64 = 0x1_0000;
 // The value of the lowest bit of the fifth byte.
 const BYTE_4: u64 = 0x1_0000_0000;
-
-// One of two numbers, by whether a value is the wanted one. Both are at hand: compiled, it is no branch.
-pub(crate) fn choose(value: u64, wanted: u64, same: u64, other: u64) -> u64
-    ensures { λ r. ⌜ r ≡ ifEq value wanted same other ⌝ }
-{
-    if value == wanted {
-        return same;
-    }
-    other
-}
 
 fn wide(byte: u8) -> u64
     ensures { λ r. ⌜ (r ≡ byte) × (r < 256) ⌝ }
@@ -43,7 +31,7 @@ pub(crate) fn le16(s: &[u8], at: usize) -> u64
 
 fn le32(s: &[u8], at: usize) -> u64
     requires { ⌜ at + 4 ≤ length (now s) ⌝ }
-    ensures { λ r. ⌜ (r ≡ leAt 4 (now (s .entry)) at) × (r < 0x1_0000_0000) × (r % 0x1_0000 ≡ leAt 2 (now (s .entry)) at) ⌝ }
+    ensures { λ r. ⌜ (r ≡ leAt 4 (now (s .entry)) at) × (r < 0x1_0000_0000) ⌝ }
 {
     le16(s, at) + BYTE_2 * le16(s, at + 2)
 }
@@ -53,13 +41,6 @@ pub(crate) fn le40(s: &[u8], at: usize) -> u64
     ensures { λ r. ⌜ r ≡ leAt 5 (now (s .entry)) at ⌝ }
 {
     le32(s, at) + BYTE_4 * byte(s, at + 4)
-}
-
-pub(crate) fn le64(s: &[u8], at: usize) -> u64
-    requires { ⌜ at + 8 ≤ length (now s) ⌝ }
-    ensures { λ r. ⌜ (r ≡ leAt 8 (now (s .entry)) at) × (r % 0x1_0000 ≡ leAt 2 (now (s .entry)) at) ⌝ }
-{
-    le32(s, at) + BYTE_4 * le32(s, at + 4)
 }
 
 fn be16(s: &[u8], at: usize) -> u64

@@ -1,15 +1,16 @@
 // The checks of a frame: those before its elements, the walk over the elements, and what is missing.
 ghost use mathlib.Core.Path.{_≡_};
-ghost use Prim.Native.Nat.{_≤_};
-ghost use lib.ListN.{length};
-ghost use Rattle.ie_walk_spec.specs.Walk.{headerList};
-ghost use Rattle.eb_read_spec.specs.Read.{walkStart, elementsWalk, missing, walkNumber, blankWalk, elementsOffset, examined, acceptedWalk};
+ghost use Prim.Native.Nat.{_+_, _≤_, _<_, _^_};
+ghost use Rattle.mac_header_spec.specs.Fields.{macHeaderOf};
+ghost use Rattle.ie_walk_spec.specs.Walk.{headerList, skippedOver};
+ghost use Rattle.eb_read_spec.specs.Read.{walkStart, CountsBefore, skippedBefore, behindHeader, missing, walkNumber, examined, acceptedWalk};
 ghost use Rattle.eb_read_spec.specs.Inside.{AcceptedLiesInside};
 use eb_read_spec::Examination;
 use ie_walk_spec::HeaderListEnd;
 use ie_walk_spec::Walk;
+use mac_header_spec::FieldOffsets;
 
-pub mod mac_header_fault;
+pub mod policy;
 
 // Where the walk begins behind the header list: no element is noted.
 fn walk_start(head: HeaderListEnd) -> Walk
@@ -29,41 +30,53 @@ fn walk_start(head: HeaderListEnd) -> Walk
     }
 }
 
-// No walk.
-fn blank_walk() -> Walk
-    ensures { λ r. ⌜ r ≡ blankWalk ⌝ }
+// A walk with the elements counted that were skipped before it.
+fn skipped_before(count: usize, walk: Walk) -> Walk
+    requires { ⌜ count + walk .skipped < 2 ^ 64 ⌝ }
+    ensures { λ r. ⌜ r ≡ skippedBefore count walk ⌝ }
 {
-    walk_start(HeaderListEnd {
-        fault: 0,
-        faulty: 0,
-        skipped: 0,
-        payload: 0,
-    })
+    Walk {
+        skipped: count + walk.skipped,
+        ..walk
+    }
 }
 
-// The header list, which starts behind the fixed fields.
+// Where the elements start and end.
+fn field_offsets(s: &[u8]) -> FieldOffsets
+    ensures { λ r. ⌜ (r .elements ≡ macHeaderOf (now (s .entry)) .elements) × (r .end ≡ macHeaderOf (now (s .entry)) .end) ⌝ }
+{
+    let control = mac_header::control_of(octets::get::le(s, 0, 2));
+    mac_header::offsets_of(control, s.len())
+}
+
+// The header list of a frame.
 fn header_list(s: &[u8]) -> HeaderListEnd
-    ensures { λ r. ⌜ r ≡ headerList (now (s .entry)) (elementsOffset (now (s .entry))) (length (now (s .entry))) ⌝ }
+    ensures { λ r. ⌜ r ≡ skippedOver (headerList (now (s .entry)) (macHeaderOf (now (s .entry)) .elements) (macHeaderOf (now (s .entry)) .end)) ⌝ }
 {
-    let offsets = mac_header::offsets_of(mac_header::control_of(octets::get::le(s, 0, 2)));
+    let offsets = field_offsets(s);
     let at = offsets.elements;
-    ie_walk::header_list::header_list(s, at, s.len())
+    let end = offsets.end;
+    ie_walk::header_list::header_list(s, at, end)
 }
 
-// The elements, of which the header list is read: the payload list if one follows.
-fn elements_walk(s: &[u8], head: HeaderListEnd) -> Walk
-    requires { ⌜ head ≡ headerList (now s) (elementsOffset (now s)) (length (now s)) ⌝ }
-    ensures { λ r. ⌜ r ≡ elementsWalk (now (s .entry)) (elementsOffset (now (s .entry))) (length (now (s .entry))) ⌝ }
+// The elements behind a header list: the payload list, if one follows.
+fn behind_header(s: &[u8], head: HeaderListEnd) -> Walk
+    requires { ⌜ CountsBefore head ⌝ }
+    ensures { λ r. ⌜ r ≡ behindHeader (now (s .entry)) head (macHeaderOf (now (s .entry)) .end) ⌝ }
 {
-    let start = walk_start(head);
     if head.fault != 0 {
-        return start;
+        return walk_start(head);
     }
     if head.payload == 0 {
-        return start;
+        return walk_start(head);
     }
+    let offsets = field_offsets(s);
     let payload = head.payload;
-    ie_walk::payload_list::payload_list(s, payload, s.len(), start)
+    let end = offsets.end;
+    skipped_before(
+        head.skipped,
+        ie_walk::payload_list::payload_list(s, payload, end),
+    )
 }
 
 // Missing elements are judged last.
@@ -94,14 +107,14 @@ pub fn examine(s: &[u8]) -> Examination
     ensures answer { λ r. ⌜ r ≡ examined (now (s .entry)) ⌝ }
     ensures inside { λ _. ⌜ AcceptedLiesInside ⌝ }
 {
-    let fault = crate::mac_header_fault::mac_header_fault(s);
+    let fault = crate::policy::mac_header_fault(s);
     if fault != refusal::DONE {
         return Examination {
             number: fault,
-            walk: blank_walk(),
+            walk: ie_walk::payload_list::blank_walk(),
         };
     }
-    let walk = elements_walk(s, header_list(s));
+    let walk = behind_header(s, header_list(s));
     Examination {
         number: walk_number(walk),
         walk,
@@ -113,12 +126,12 @@ pub fn examine(s: &[u8]) -> Examination
 pub fn accepted_walk(s: &[u8]) -> Walk
     ensures { λ r. ⌜ r ≡ acceptedWalk (now (s .entry)) ⌝ }
 {
-    if crate::mac_header_fault::mac_header_fault(s) != refusal::DONE {
-        return blank_walk();
+    if crate::policy::mac_header_fault(s) != refusal::DONE {
+        return ie_walk::payload_list::blank_walk();
     }
-    let walk = elements_walk(s, header_list(s));
+    let walk = behind_header(s, header_list(s));
     if walk_number(walk) != refusal::DONE {
-        return blank_walk();
+        return ie_walk::payload_list::blank_walk();
     }
     walk
 }

@@ -6,10 +6,10 @@ ghost use lib.ListN.{length, take};
 ghost use Rattle.octets_spec.specs.Choice.{ifOn};
 ghost use Rattle.octets_spec.specs.Number.{leBytes, beBytes, stored};
 ghost use Rattle.eb_write_spec.specs.Frame.{suppressedBit, sequenceBytes, sourceMode, sourceBytes, controlWord, macHeaderBytes, headerTermination1, headerDescriptor, ietfGroup, joiningSubtype, groupDescriptor, flag, joiningWord, joiningSize, joiningBytes, beaconGroup, frameOf};
-use eb_record_spec::Address;
 use eb_record_spec::Beacon;
 use eb_record_spec::JoiningInformation;
-use eb_record_spec::SequenceNumber;
+use mac_header_spec::Address;
+use mac_header_spec::SequenceNumber;
 
 // Frame control of every frame: PAN ID compression, elements present, a short destination, version 2.
 const ALWAYS: u64 = 0x2A40;

@@ -8,27 +8,28 @@ use lib.ListN.{length}
 use Rattle.octets_spec.proofs.ChoiceLaws.{if-ne}
 use Rattle.eb_record_spec.specs.Record.{blankJoining}
 use Rattle.eb_record_spec.specs.declared.Beacon.{Beacon}
-use Rattle.mac_header_spec.specs.Control.{macHeaderFault}
+use Rattle.mac_header_spec.specs.Fields.{macHeaderOf}
 use Rattle.ie_verdict_spec.specs.Verdict.{partFault}
-use Rattle.ie_walk_spec.specs.Walk.{headerList}
+use Rattle.ie_walk_spec.specs.Walk.{HeaderList, blankWalk, skippedOver, headerList}
 use Rattle.ie_walk_spec.specs.declared.Walk.{Walk}
 use Rattle.ie_walk_spec.specs.declared.HeaderListEnd.{HeaderListEnd}
 use Rattle.ie_walk_spec.proofs.ListLaws.{header-start, payload-is}
 use Rattle.eb_read_spec.specs.Decode.{joiningAt, decoded}
 use Rattle.eb_read_spec.proofs.DecodeLaws.{decodes, joining-absent}
 use Rattle.eb_read_spec.specs.Claims.{Bytes}
-use Rattle.eb_read_spec.specs.Read.{walkStart, elementsWalk, missing, walkNumber, elementsOffset, examined, readFrame}
+use Rattle.eb_read_spec.specs.Read.{walkStart, skippedBefore, behindHeader, elementsWalk, missing, walkNumber, examined, readFrame}
+use Rattle.eb_read_spec.specs.Policy.{macHeaderFault}
 use Rattle.eb_read_spec.specs.declared.Examination.{Examination}
 use Rattle.eb_read_spec.specs.declared.ReadAnswer.{ReadAnswer}
 use Rattle.eb_read_spec.proofs.Each.{each-eq}
 use Rattle.eb_read_spec.proofs.Claimed.{number-of}
 use Rattle.eb_read_spec.proofs.Accepted.{Required, accepted-required, accepted-decoded}
-use Rattle.eb_read_spec.proofs.ReadLaws.{header-and-payload, faultless, examined-walk, read-done}
+use Rattle.eb_read_spec.proofs.ReadLaws.{header-and-payload, elements-are, faultless, examined-walk, read-done}
 use Rattle.eb_grammar_spec.proofs.Stands.{Stands}
 use Rattle.eb_grammar_spec.specs.Grammar.{Descriptor, Element, contents, HeaderElements, PayloadElements, JoiningContent, absent, Accepts}
 use Rattle.eb_grammar_spec.specs.Claims.{Sound, Complete, Unambiguous, RefusedSaysNothing}
 use Rattle.eb_grammar_spec.proofs.Slices.{part}
-use Rattle.eb_grammar_spec.proofs.Notes.{unseen, One, Kept, Notes, notes-none}
+use Rattle.eb_grammar_spec.proofs.Notes.{unseen, One, Kept, Notes, notes-none, notes-before}
 use Rattle.eb_grammar_spec.proofs.SoundLists.{payload-sound, header-sound}
 use Rattle.eb_grammar_spec.proofs.CompleteLists.{Fine, Allowed, Allows, OuterPasses, outers-pass, HeaderPasses, header-passes}
 use Rattle.eb_grammar_spec.proofs.Synchronized.{sync-fine, sync-value, sync-says, hopping-some, hopping-fine}
@@ -38,7 +39,7 @@ use Rattle.eb_grammar_spec.proofs.Joined.{single, no-entry, joining-say
 use Rattle.eb_grammar_spec.proofs.Opened.{Opens, opens-of, OpeningSays, opening-says}
 
 -- ---- sound
-record Element-in (s : List ℕ) (at : ℕ) (w : Walk) : Type 0 where
+record Found-in (s : List ℕ) (at : ℕ) (w : Walk) : Type 0 where
   header : List ℕ
   low : ℕ
   high : ℕ
@@ -51,22 +52,22 @@ record Element-in (s : List ℕ) (at : ℕ) (w : Walk) : Type 0 where
   notes : Notes s w found
 
 module _ (s : List ℕ) (bytes : Bytes s) where
-  elements-sound : (at : ℕ) → elementsWalk s at (length s) .fault ≡ 0 → (elementsWalk s at (length s) .synchronization ≡ 0 → ⊥) → Element-in s at (elementsWalk s at (length s))
-  unfolding elementsWalk walkStart
+  elements-sound : (at : ℕ) → elementsWalk s at (length s) .fault ≡ 0 → (elementsWalk s at (length s) .synchronization ≡ 0 → ⊥) → Found-in s at (elementsWalk s at (length s))
+  unfolding elementsWalk behindHeader walkStart skippedOver skippedBefore
   elements-sound at =
-      let head : HeaderListEnd = headerList s at (length s) in
-      let P : Walk → Type 0 = λ w. w .fault ≡ 0 → (w .synchronization ≡ 0 → ⊥) → Element-in s at w in
+      let head : HeaderList = headerList s at (length s) in
+      let P : Walk → Type 0 = λ w. w .fault ≡ 0 → (w .synchronization ≡ 0 → ⊥) → Found-in s at w in
       each-eq P _ _ (head .fault) 0
       (λ good. each-eq P _ _ (head .payload) 0 (λ none fine some. absurd (some refl))
       (λ follows fine some.
       let h = header-sound s bytes at (length s) follows in
-      let o = payload-sound s bytes (head .payload) (length s) (walkStart head) [] (h .within) (omega arith) (notes-none s head) fine in
-      record { header = h .header; low = h .low; high = h .high; payload = part s (head .payload) (length s - head .payload); found = o .more; splits = h .splits; skips = h .skips; follows = h .follows; lists = o .list; notes = o .notes }))
+      let o = payload-sound s bytes (head .payload) (length s) (h .within) (omega arith) fine in
+      record { header = h .header; low = h .low; high = h .high; payload = part s (head .payload) (length s - head .payload); found = o .more; splits = h .splits; skips = h .skips; follows = h .follows; lists = o .list; notes = notes-before s _ _ (o .more) (o .notes) }))
       (λ bad fine some. absurd (some refl))
 
   record Examined (w : Walk) : Type 0 where
     opens : macHeaderFault s ≡ 0
-    is : elementsWalk s (elementsOffset s) (length s) ≡ w
+    is : elementsWalk s (macHeaderOf s .elements) (macHeaderOf s .end) ≡ w
     number : walkNumber w ≡ 0
 
   examined-says : examined s .number ≡ 0 → Examined (examined s .walk)
@@ -89,7 +90,7 @@ module _ (s : List ℕ) (bytes : Bytes s) where
   joining-of p e cs (inl none) = rw (none .1) (subst (λ j. JoiningContent [] j) (joining-absent s p e blankJoining refl (none .0)) absent)
   joining-of p e cs (inr one) = rw (one .only, one .ends) (joining-says s bytes p (one .content) (one .stands) (passed 258 p e cs one) (one .some))
 
-  accepts : (w : Walk) → length s ≤ 125 → OpeningSays s → Element-in s (elementsOffset s) w → Required w → Accepts s (decoded s w)
+  accepts : (w : Walk) → length s ≤ 125 → OpeningSays s → Found-in s (macHeaderOf s .elements) w → Required w → Accepts s (decoded s w)
   unfolding decoded
   accepts w short o f r =
       let n = f .notes in
@@ -127,8 +128,8 @@ sound s b bytes e =
     let required = accepted-required s number in
     let opening = opening-says s bytes (x .opens) in
     let w : Walk = examined s .walk in
-    let there : Element-in s (elementsOffset s) w =
-    subst (λ (v : Walk). v .fault ≡ 0 → (v .synchronization ≡ 0 → ⊥) → Element-in s (elementsOffset s) v) (x .is) (elements-sound s bytes (elementsOffset s)) (no-fault s bytes w (x .number)) (required .synchronization) in
+    let there : Found-in s (macHeaderOf s .elements) w =
+    subst (λ (v : Walk). v .fault ≡ 0 → (v .synchronization ≡ 0 → ⊥) → Found-in s (macHeaderOf s .elements) v) (ap (λ (end : ℕ). elementsWalk s (macHeaderOf s .elements) end) (opening .1 .ends) ∙ x .is) (elements-sound s bytes (macHeaderOf s .elements)) (no-fault s bytes w (x .number)) (required .synchronization) in
     subst (λ (r : Beacon). Accepts s r) (accepted-decoded s number ∙ ap (λ (r : ReadAnswer). r .beacon) e) (accepts s bytes w (opening .0) (opening .1) there required)
 
 -- ---- complete
@@ -162,17 +163,22 @@ module _ (s : List ℕ) (b : Beacon) (bytes : Bytes s) (a : Accepts s b) where
   abbrev head : HeaderListEnd
   head = record { fault = 0; faulty = 0; skipped = heading .count; payload = heading .place }
 
-  passing : OuterPasses s (heading .place) (length s) (walkStart head) (a .found)
-  unfolding walkStart
-  passing = outers-pass s (a .payload) (a .found) (a .lists) (heading .place) (length s) (walkStart head) [] (heading .stands) (heading .ends) (notes-none s head) allows refl
+  passing : OuterPasses s (heading .place) (length s) blankWalk (a .found)
+  unfolding blankWalk
+  passing = outers-pass s (a .payload) (a .found) (a .lists) (heading .place) (length s) blankWalk [] (heading .stands) (heading .ends) (notes-none s) allows refl (omega arith)
 
   abbrev w : Walk
-  w = passing .walk
+  w = skippedBefore (heading .count) (passing .walk)
 
-  walk-is : w ≡ elementsWalk s at (length s)
+  walk-is : w ≡ elementsWalk s (macHeaderOf s .elements) (macHeaderOf s .end)
   walk-is =
-      header-and-payload s at (length s) head (walkStart head) (heading .is) refl refl w (heading .some)
-      (payload-is s (heading .place) (length s) (walkStart head) w (omega (arith, heading .ends)) (passing .is))
+      rw (← opening .reading .place-is, ← opening .reading .end-is)
+      (elements-are s at (length s) head w (heading .is)
+      (header-and-payload s (length s) head refl (passing .walk) w (heading .some) (payload-is s (heading .place) (length s) blankWalk refl (passing .walk) (omega (arith, heading .ends)) (passing .is)) refl))
+
+  good : w .fault ≡ 0
+  unfolding skippedBefore
+  good = passing .good
 
   -- each required element is noted
   noted : (k p e : ℕ) (c : List ℕ) → contents k (a .found) ≡ c ∷ [] → Kept s k p e (contents k (a .found)) → (p ≡ 0 → ⊥) × Stands s p c × (e ≡ p + length c)
@@ -182,7 +188,7 @@ module _ (s : List ℕ) (b : Beacon) (bytes : Bytes s) (a : Accepts s b) where
       (one .some, rw same at (one .stands), rw same at (one .ends))
 
   abbrev n : Notes s w (a .found)
-  n = passing .notes
+  n = notes-before s (passing .walk) (heading .count) (a .found) (passing .notes)
 
   sync : (w .synchronization ≡ 0 → ⊥) × Stands s (w .synchronization) (a .says .synchronization .0) × (n .synchronization-end ≡ w .synchronization + length (a .says .synchronization .0))
   sync = noted 26 _ _ (a .says .synchronization .0) (a .says .synchronization .1) (n .synchronization)
@@ -208,13 +214,13 @@ module _ (s : List ℕ) (b : Beacon) (bytes : Bytes s) (a : Accepts s b) where
   unfolding Stands
   decodes-it =
       let long : length (a .says .timeslot .0) ≡ w .timeslotend - w .timeslot = omega (arith, time .2) in
-      decodes s w (record { sequence = b .sequence; pan = b .pan; source = b .source }) (b .synchronization) (b .timeslot) (length (a .says .timeslot .0)) (b .hopping) (b .slotframe) (b .joining) (opening .reads)
+      decodes s w (b .sequence) (b .pan) (b .source) (b .synchronization) (b .timeslot) (length (a .says .timeslot .0)) (b .hopping) (b .slotframe) (b .joining) (opening .reading .sequence-is) (opening .reading .pan-is) (opening .reading .source-is)
       (sync-value s _ (a .says .synchronization .0) (sync .1) _ _ (a .says .synchronization .2)) long (timeslot-value s _ (a .says .timeslot .0) (b .timeslot) (a .says .timeslot .2) (time .1)) (sym (hop .1 .0))
       (slotframe-value s _ (a .says .slotframe .0) (b .slotframe) (a .says .slotframe .2) (slot .1)) (joining-reads _ (a .says .joining) (n .joining))
 
   reads : _≡_ {A = ReadAnswer} (record { number = 0; beacon = b }) (readFrame s)
   reads =
-      let x : _≡_ {A = Examination} (record { number = 0; walk = w }) (examined s) = examined-walk s 0 (opening .fine) w at 0 refl (opening .place-is) walk-is (faultless w 0 (passing .good) none-missing) in
+      let x : _≡_ {A = Examination} (record { number = 0; walk = w }) (examined s) = examined-walk s 0 (opening .fine) w 0 refl walk-is (faultless w 0 good none-missing) in
       read-done s (record { number = 0; walk = w }) x b refl decodes-it
 
 pub complete : Complete

@@ -12,10 +12,9 @@ use Rattle.octets_spec.specs.Choice.{ifEq}
 use Rattle.octets_spec.proofs.ChoiceLaws.{if-ne, by-test, was-eq, was-ne, was-ge, was-off}
 use Rattle.ie_verdict_spec.specs.Verdict.{onceOnly, syncFault, timeslotFault, hoppingFault, slotframeFault, slotframeFaultAt, joiningFault, partFault}
 use Rattle.ie_verdict_spec.specs.declared.Seen.{Seen}
-use Rattle.ie_walk_spec.specs.Walk.{seenOf, skipOne, taken}
+use Rattle.ie_walk_spec.specs.Walk.{blankWalk, seenOf, skipOne, taken}
 use Rattle.ie_walk_spec.specs.declared.Walk.{Walk}
-use Rattle.ie_walk_spec.specs.declared.HeaderListEnd.{HeaderListEnd}
-use Rattle.eb_read_spec.specs.Read.{walkStart}
+use Rattle.eb_read_spec.specs.Read.{skippedBefore}
 use Rattle.eb_read_spec.proofs.Each.{each-eq}
 use Rattle.eb_read_spec.proofs.Noted.{wrong-shape, twice}
 use Rattle.eb_grammar_spec.proofs.Stands.{Stands}
@@ -103,9 +102,9 @@ pub record Notes (s : List ℕ) (w : Walk) (found : List Element) : Type 0 where
   pub slotframe : Kept s 27 (w .slotframe) slotframe-end (contents 27 found)
   pub joining : Kept s 258 (w .joining) (w .joiningend) (contents 258 found)
 
-pub notes-none : (s : List ℕ) (head : HeaderListEnd) → Notes s (walkStart head) []
-unfolding walkStart contents
-notes-none s head = record {
+pub notes-none : (s : List ℕ) → Notes s blankWalk []
+unfolding blankWalk contents
+notes-none s = record {
   synchronization-end = 0;
   hopping-end = 0;
   slotframe-end = 0;
@@ -116,9 +115,12 @@ notes-none s head = record {
   joining = inl (refl, refl);
 }
 
-pub notes-skip : (s : List ℕ) (w : Walk) (found : List Element) → Notes s w found → Notes s (skipOne w) found
-unfolding skipOne
-notes-skip s w found n = record {
+-- the count of elements that are skipped does not matter
+abbrev counted : ℕ → Walk → Walk
+counted count w = record { fault = w .fault; faulty = w .faulty; skipped = count; synchronization = w .synchronization; timeslot = w .timeslot; timeslotend = w .timeslotend; hopping = w .hopping; slotframe = w .slotframe; joining = w .joining; joiningend = w .joiningend }
+
+notes-counted : (s : List ℕ) (w : Walk) (count : ℕ) (found : List Element) → Notes s w found → Notes s (counted count w) found
+notes-counted s w count found n = record {
   synchronization-end = n .synchronization-end;
   hopping-end = n .hopping-end;
   slotframe-end = n .slotframe-end;
@@ -128,6 +130,14 @@ notes-skip s w found n = record {
   slotframe = n .slotframe;
   joining = n .joining;
 }
+
+pub notes-before : (s : List ℕ) (w : Walk) (count : ℕ) (found : List Element) → Notes s w found → Notes s (skippedBefore count w) found
+unfolding skippedBefore
+notes-before s w count found n = notes-counted s w _ found n
+
+pub notes-skip : (s : List ℕ) (w : Walk) (found : List Element) → Notes s w found → Notes s (skipOne w) found
+unfolding skipOne
+notes-skip s w found n = notes-counted s w _ found n
 
 -- an element of another kind changes nothing
 contents-other : (k : ℕ) (found : List Element) (x : Element) → (x .kind ≡ k → ⊥) → contents k (found ++ (x ∷ [])) ≡ contents k found

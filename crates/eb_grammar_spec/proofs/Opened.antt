@@ -1,4 +1,4 @@
--- What stands before the elements: of the grammar exactly when the checks of the opening pass, and read as what it says. Assumes nothing.
+-- What stands before the elements: of the grammar exactly when the checks of the MAC header pass, and read as what it says. Assumes nothing.
 use Prim.Native.Nat.{ℕ, suc, _+_, _-_, _/_, _%_, _≤_}
 use mathlib.Core.Path.{_≡_, refl, sym, _∙_, ap, subst}
 use mathlib.Core.List.{List, [], _∷_, _++_, append-assoc}
@@ -10,21 +10,20 @@ use Rattle.octets_spec.specs.Choice.{ifLt, ifEq}
 use Rattle.octets_spec.specs.Number.{leAt}
 use Rattle.octets_spec.proofs.ChoiceLaws.{by-test, was-eq, was-ge}
 use Rattle.refusal.specs.Refusal.{done, frameTooLong, cut, wrongType, secured, addressing}
-use Rattle.eb_record_spec.specs.declared.SequenceNumber.{SequenceNumber}
-use Rattle.eb_record_spec.specs.declared.SequenceNumber.the-variants.{Absent, Number}
-use Rattle.eb_record_spec.specs.declared.Address.{Address}
-use Rattle.eb_record_spec.specs.declared.Address.the-variants.{Short, Extended}
-use Rattle.mac_header_spec.specs.Control.{controlOf, formFault, addressLength, offsetsOf, macHeaderFault}
+use Rattle.mac_header_spec.specs.Control.{controlOf}
+use Rattle.mac_header_spec.specs.Fields.{addressLength, offsetsOf, macHeaderOf, sequenceOf, addressOf}
 use Rattle.mac_header_spec.specs.declared.Control.{Control}
 use Rattle.mac_header_spec.specs.declared.FieldOffsets.{FieldOffsets}
-use Rattle.mac_header_spec.proofs.ControlLaws.{opened}
-use Rattle.eb_read_spec.specs.Decode.{sequenceOf, sourceOf, macHeaderOf}
-use Rattle.eb_read_spec.specs.declared.MacHeader.{MacHeader as Fields}
-use Rattle.eb_read_spec.proofs.DecodeLaws.{some-sequence, no-sequence, extended, short, opens}
+use Rattle.mac_header_spec.specs.declared.MacHeader.{MacHeader}
+use Rattle.mac_header_spec.specs.declared.SequenceNumber.{SequenceNumber}
+use Rattle.mac_header_spec.specs.declared.SequenceNumber.the-variants.{Absent, Number}
+use Rattle.mac_header_spec.specs.declared.Address.{Address}
+use Rattle.mac_header_spec.specs.declared.Address.the-variants.{Short, Extended}
+use Rattle.mac_header_spec.proofs.ControlLaws as control-laws
 use Rattle.eb_read_spec.specs.Claims.{Bytes}
-use Rattle.eb_read_spec.specs.Read.{elementsOffset}
+use Rattle.eb_read_spec.specs.Policy.{formFault, policyFault, macHeaderFault}
 use Rattle.eb_read_spec.proofs.Each.{each-eq}
-use Rattle.eb_read_spec.proofs.ReadLaws.{offsets-at}
+use Rattle.eb_read_spec.proofs.PolicyLaws.{accepted}
 use Rattle.eb_grammar_spec.proofs.Stands.{Stands, stands-whole, stands-first, stands-rest, stands-at}
 use Rattle.eb_grammar_spec.specs.Row.{le}
 use Rattle.eb_grammar_spec.specs.Grammar.{SequenceBytes, numbered, suppressed, SourceBytes, short-source, extended-source, FrameControl, FixedFields, fixed-fields}
@@ -34,29 +33,30 @@ use Rattle.eb_grammar_spec.proofs.Slices.{part, part-at, part-cons, par
 abbrev form : ℕ → ℕ → Control
 form suppression mode = record { kind = 0; security = 0; compression = 1; suppressed = suppression; elements = 1; destination = 2; version = 2; source = mode }
 
-abbrev fieldsAt : ℕ → ℕ → FieldOffsets
-fieldsAt k m = record { pan = 2 + k; destination = 2 + k + 2; source = 2 + k + 4; elements = 2 + k + 4 + m }
+abbrev fieldsAt : ℕ → ℕ → ℕ → FieldOffsets
+fieldsAt k m size = record { pan = 2 + k; destination = 2 + k + 2; source = 2 + k + 4; elements = 2 + k + 4 + m; end = size }
 
 -- the four forms: with a sequence number or without (k bytes), with a short source or an extended one (m bytes)
 record Formed (suppression mode k m : ℕ) : Type 0 where
   fine : 0 ≡ formFault (form suppression mode)
-  places : fieldsAt k m ≡ offsetsOf (form suppression mode)
+  places : (size : ℕ) → fieldsAt k m size ≡ offsetsOf (form suppression mode) size
+  wide : m ≡ addressLength mode
 
 number-short : Formed 0 2 1 2
 unfolding formFault offsetsOf addressLength ifEq ifLt
-number-short = record { fine = refl; places = refl }
+number-short = record { fine = refl; places = λ size. refl; wide = refl }
 
 number-extended : Formed 0 3 1 8
 unfolding formFault offsetsOf addressLength ifEq ifLt
-number-extended = record { fine = refl; places = refl }
+number-extended = record { fine = refl; places = λ size. refl; wide = refl }
 
 absent-short : Formed 1 2 0 2
 unfolding formFault offsetsOf addressLength ifEq ifLt
-absent-short = record { fine = refl; places = refl }
+absent-short = record { fine = refl; places = λ size. refl; wide = refl }
 
 absent-extended : Formed 1 3 0 8
 unfolding formFault offsetsOf addressLength ifEq ifLt
-absent-extended = record { fine = refl; places = refl }
+absent-extended = record { fine = refl; places = λ size. refl; wide = refl }
 
 control-is : (word suppression mode : ℕ) → FrameControl word suppression mode → form suppression mode ≡ controlOf word
 unfolding controlOf
@@ -64,22 +64,68 @@ control-is word suppression mode c =
     let kind : word % 8 ≡ 0 = omega (arith, c .type) in
     rw (kind, c .security, c .compression, c .suppression, c .elements, c .destination, c .version, c .source)
 
+two-wide : addressLength 2 ≡ 2
+unfolding addressLength ifEq
+two-wide = refl
+
+-- ---- the fields of a frame whose control has the accepted form
+-- they are read as these, and the elements stand there
+pub record Reads (s : List ℕ) (sequence : SequenceNumber) (pan : ℕ) (source : Address) (place : ℕ) : Type 0 where
+  pub sequence-is : sequence ≡ sequenceOf (macHeaderOf s)
+  pub pan-is : pan ≡ macHeaderOf s .pan
+  pub source-is : source ≡ addressOf (macHeaderOf s .control .source) (macHeaderOf s .source)
+  pub place-is : place ≡ macHeaderOf s .elements
+  pub end-is : length s ≡ macHeaderOf s .end
+
+abbrev numberAt : List ℕ → ℕ → SequenceNumber
+numberAt s suppression = ifEq suppression 0 (Number (ifEq suppression 0 (getD s 2 0) 0)) Absent
+
+module _ (s : List ℕ) (suppression mode k m : ℕ) (formed : Formed suppression mode k m) (c : FrameControl (leAt 2 s 0) suppression mode) where
+  abbrev header : MacHeader
+  header = record {
+    control = form suppression mode;
+    sequence = ifEq suppression 0 (getD s 2 0) 0;
+    pan = leAt 2 s (2 + k);
+    destination = leAt 2 s (2 + k + 2);
+    source = leAt m s (2 + k + 4);
+    elements = 2 + k + 4 + m;
+    end = length s;
+  }
+
+  header-is : header ≡ macHeaderOf s
+  header-is =
+      control-laws.fields s (leAt 2 s 0) (form suppression mode) (fieldsAt k m (length s)) refl (control-is _ suppression mode c) (formed .places (length s)) (getD s 2 0) (ifEq suppression 0 (getD s 2 0) 0) (leAt 2 s (2 + k))
+      (leAt 2 s (2 + k + 2)) (leAt m s (2 + k + 4)) refl refl refl (ap (λ (width : ℕ). leAt width s (2 + k + 2)) (sym two-wide)) (ap (λ (width : ℕ). leAt width s (2 + k + 4)) (formed .wide))
+
+  passes : length s ≤ 125 → 2 + k + 4 + m ≤ length s → leAt 2 s (2 + k + 2) ≡ 65535 → 0 ≡ macHeaderFault s
+  unfolding macHeaderFault
+  passes short room there = subst (λ (h : MacHeader). 0 ≡ policyFault (length s) h) header-is (accepted (length s) header short (omega arith) 0 (formed .fine) refl room there)
+
+  reads : (n : SequenceNumber) (pan : ℕ) (a : Address) → n ≡ numberAt s suppression → pan ≡ leAt 2 s (2 + k) → a ≡ addressOf mode (leAt m s (2 + k + 4)) → Reads s n pan a (2 + k + 4 + m)
+  unfolding sequenceOf
+  reads n pan a n-is pan-is a-is = record {
+    sequence-is = n-is ∙ ap sequenceOf header-is;
+    pan-is = pan-is ∙ ap (λ (h : MacHeader). h .pan) header-is;
+    source-is = a-is ∙ ap (λ (h : MacHeader). addressOf (h .control .source) (h .source)) header-is;
+    place-is = ap (λ (h : MacHeader). h .elements) header-is;
+    end-is = ap (λ (h : MacHeader). h .end) header-is;
+  }
+
 all-ones : le (255 ∷ 255 ∷ []) ≡ 65535
 unfolding le
 all-ones = refl
 
 -- ---- a frame of the grammar opens
 pub record Opens (s : List ℕ) (sequence : SequenceNumber) (pan : ℕ) (source : Address) (elements : List ℕ) : Type 0 where
-  pub fine : 0 ≡ macHeaderFault s
   pub place : ℕ
-  pub place-is : place ≡ elementsOffset s
+  pub fine : 0 ≡ macHeaderFault s
+  pub reading : Reads s sequence pan source place
   pub stands : Stands s place elements
   pub ends : place + length elements ≡ length s
-  pub reads : _≡_ {A = Fields} (record { sequence = sequence; pan = pan; source = source }) (macHeaderOf s)
 
 module _ (s : List ℕ) (short-frame : length s ≤ 125) (a b p q : ℕ) (elements : List ℕ) where
   opens-form : (suppression mode k m : ℕ) → Formed suppression mode k m → (sequence source : List ℕ) (n : SequenceNumber) (address : Address) → length sequence ≡ k → length source ≡ m
-      → (Stands s 2 sequence → n ≡ sequenceOf s suppression) → (Stands s (2 + k + 4) source → address ≡ sourceOf s mode (2 + k + 4)) → s ≡ a ∷ b ∷ (sequence ++ (p ∷ q ∷ 255 ∷ 255 ∷ (source ++ elements)))
+      → (Stands s 2 sequence → n ≡ numberAt s suppression) → (Stands s (2 + k + 4) source → address ≡ addressOf mode (leAt m s (2 + k + 4))) → s ≡ a ∷ b ∷ (sequence ++ (p ∷ q ∷ 255 ∷ 255 ∷ (source ++ elements)))
       → FrameControl (le (a ∷ b ∷ [])) suppression mode → Opens s n (le (p ∷ q ∷ [])) address elements
   opens-form suppression mode k m formed sequence source n address k-is m-is n-is address-is is control =
       let rest : List ℕ = 255 ∷ 255 ∷ (source ++ elements) in
@@ -91,31 +137,32 @@ module _ (s : List ℕ) (short-frame : length s ≤ 125) (a b p q : ℕ) (elemen
       let destinations : Stands s (2 + k + 2) rest = stands-rest s (p ∷ q ∷ []) rest (2 + k) pans in
       let destination : 65535 ≡ leAt 2 s (2 + k + 2) = sym all-ones ∙ le-stands s (2 + k + 2) (255 ∷ 255 ∷ []) (stands-first s (255 ∷ 255 ∷ []) (source ++ elements) _ destinations) in
       let sources : Stands s (2 + k + 4) (source ++ elements) = stands-at s _ _ _ (omega arith) (stands-rest s (255 ∷ 255 ∷ []) (source ++ elements) (2 + k + 2) destinations) in
-      let last : Stands s (2 + k + 4 + m) elements = stands-at s _ _ _ (omega (arith, m-is)) (stands-rest s source elements (2 + k + 4) sources) in
-      let e = control-is _ suppression mode control in
+      let c : FrameControl (leAt 2 s 0) suppression mode = rw word at control in
       let long : length s ≡ 2 + k + 4 + m + length elements =
       ap length is ∙ omega (arith, length-append sequence (p ∷ q ∷ rest), length-append source elements, k-is, m-is) in
       record {
-        fine = opened s short-frame (form suppression mode) 0 (le (a ∷ b ∷ [])) (omega (arith, long)) word e (formed .fine) refl (fieldsAt k m) (formed .places) (omega (arith, long)) 65535 destination refl;
         place = 2 + k + 4 + m;
-        place-is = offsets-at s (le (a ∷ b ∷ [])) (form suppression mode) (fieldsAt k m) word e (formed .places);
-        stands = last;
+        fine = passes s suppression mode k m formed c short-frame (omega (arith, long)) (sym destination);
+        reading = reads s suppression mode k m formed c n _ address (n-is (stands-first s sequence _ 2 behind)) pan-is (address-is (stands-first s source elements _ sources));
+        stands = stands-at s _ _ _ (omega (arith, m-is)) (stands-rest s source elements (2 + k + 4) sources);
         ends = sym long;
-        reads = opens s (le (a ∷ b ∷ [])) (le (p ∷ q ∷ [])) (form suppression mode) (fieldsAt k m) n address word e (formed .places) (n-is (stands-first s sequence _ 2 behind)) pan-is (address-is (stands-first s source elements _ sources));
       }
 
-  short-is : (at : ℕ) (xs : List ℕ) → length xs ≡ 2 → Stands s at xs → Short (le xs) ≡ sourceOf s 2 at
-  short-is at xs two h = short s 2 at (le xs) (λ (z : _≡_ {A = ℕ} 2 3). omega arith) (rw two at (le-stands s at xs h))
+  short-is : (at : ℕ) (xs : List ℕ) → length xs ≡ 2 → Stands s at xs → Short (le xs) ≡ addressOf 2 (leAt 2 s at)
+  unfolding addressOf ifEq
+  short-is at xs two h = ap Short (rw two at (le-stands s at xs h))
 
-  extended-is : (at : ℕ) (xs : List ℕ) → length xs ≡ 8 → Stands s at xs → Extended (le xs) ≡ sourceOf s 3 at
-  extended-is at xs eight h = extended s 3 at (le xs) refl (rw eight at (le-stands s at xs h))
+  extended-is : (at : ℕ) (xs : List ℕ) → length xs ≡ 8 → Stands s at xs → Extended (le xs) ≡ addressOf 3 (leAt 8 s at)
+  unfolding addressOf ifEq
+  extended-is at xs eight h = ap Extended (rw eight at (le-stands s at xs h))
 
-  number-is : (n : ℕ) → Stands s 2 (n ∷ []) → Number n ≡ sequenceOf s 0
-  unfolding Stands
-  number-is n h = some-sequence s 0 n refl (sym (h .0))
+  number-is : (n : ℕ) → Stands s 2 (n ∷ []) → Number n ≡ numberAt s 0
+  unfolding Stands ifEq
+  number-is n h = ap Number (sym (h .0))
 
-  absent-is : Stands s 2 [] → Absent ≡ sequenceOf s 1
-  absent-is h = no-sequence s 1 (λ (z : _≡_ {A = ℕ} 1 0). omega arith)
+  absent-is : Stands s 2 [] → Absent ≡ numberAt s 1
+  unfolding ifEq
+  absent-is h = refl
 
   pub opens-all : (suppression mode : ℕ) (sequence source : List ℕ) (n : SequenceNumber) (address : Address) → SequenceBytes suppression sequence n → SourceBytes mode source address
       → s ≡ a ∷ b ∷ (sequence ++ (p ∷ q ∷ 255 ∷ 255 ∷ (source ++ elements))) → FrameControl (le (a ∷ b ∷ [])) suppression mode → Opens s n (le (p ∷ q ∷ [])) address elements
@@ -129,11 +176,12 @@ opens-of s short-frame _ elements _ _ _ (fixed-fields a b p q {suppression} {mod
     opens-all s short-frame a b p q elements suppression mode sequence source number address n-says address-says
     (is ∙ ap (λ (xs : List ℕ). a ∷ b ∷ xs) (append-assoc sequence (p ∷ q ∷ 255 ∷ 255 ∷ source) elements)) c
 
--- ---- a frame whose opening passes is of the grammar
+-- ---- a frame whose MAC header passes is of the grammar
 pub record OpeningSays (s : List ℕ) : Type 0 where
   pub fields : List ℕ
-  pub frame : s ≡ fields ++ part s (elementsOffset s) (length s - elementsOffset s)
-  pub says : FixedFields fields (macHeaderOf s .sequence) (macHeaderOf s .pan) (macHeaderOf s .source)
+  pub frame : s ≡ fields ++ part s (macHeaderOf s .elements) (length s - macHeaderOf s .elements)
+  pub says : FixedFields fields (sequenceOf (macHeaderOf s)) (macHeaderOf s .pan) (addressOf (macHeaderOf s .control .source) (macHeaderOf s .source))
+  pub ends : length s ≡ macHeaderOf s .end
 
 module _ (s : List ℕ) (bytes : Bytes s) where
   two-bytes : (at : ℕ) → le (getD s at 0 ∷ getD s (at + 1) 0 ∷ []) ≡ leAt 2 s at
@@ -167,23 +215,20 @@ module _ (s : List ℕ) (bytes : Bytes s) where
         part-append s (2 + k + 4) m r,
       ))
 
-  says-form : (suppression mode k m : ℕ) → Formed suppression mode k m → (n : SequenceNumber) (address : Address) → n ≡ sequenceOf s suppression → address ≡ sourceOf s mode (2 + k + 4) → SequenceBytes suppression (part s 2 k) n → SourceBytes mode (part s (2 + k + 4) m) address
-      → FrameControl (leAt 2 s 0) suppression mode → offsetsOf (controlOf (leAt 2 s 0)) .elements ≤ length s → leAt 2 s (offsetsOf (controlOf (leAt 2 s 0)) .destination) ≡ 65535 → OpeningSays s
+  says-form : (suppression mode k m : ℕ) → Formed suppression mode k m → (n : SequenceNumber) (address : Address) → n ≡ numberAt s suppression → address ≡ addressOf mode (leAt m s (2 + k + 4)) → SequenceBytes suppression (part s 2 k) n
+      → SourceBytes mode (part s (2 + k + 4) m) address → FrameControl (leAt 2 s 0) suppression mode → macHeaderOf s .elements ≤ macHeaderOf s .end → macHeaderOf s .destination ≡ 65535 → OpeningSays s
   says-form suppression mode k m formed n address n-is address-is n-says address-says c room there =
-      let e = control-is _ suppression mode c in
-      let places : fieldsAt k m ≡ offsetsOf (controlOf (leAt 2 s 0)) = rw e at (formed .places) in
-      let fits : 2 + k + 4 + m ≤ length s = rw (← places) at room in
-      let destination = broadcast (2 + k + 2) (rw (← places) at there) in
-      let place : 2 + k + 4 + m ≡ elementsOffset s = offsets-at s (leAt 2 s 0) (form suppression mode) (fieldsAt k m) refl e (formed .places) in
-      let reads = opens s (leAt 2 s 0) (leAt 2 s (2 + k)) (form suppression mode) (fieldsAt k m) n address refl e (formed .places) n-is refl address-is in
+      let r = reads s suppression mode k m formed c n (leAt 2 s (2 + k)) address n-is refl address-is in
+      let fits : 2 + k + 4 + m ≤ length s = omega (arith, room, r .place-is, r .end-is) in
+      let destination = broadcast (2 + k + 2) (ap (λ (h : MacHeader). h .destination) (header-is s suppression mode k m formed c) ∙ there) in
       let pans : List ℕ = getD s (2 + k) 0 ∷ getD s (2 + k + 1) 0 ∷ 255 ∷ 255 ∷ part s (2 + k + 4) m in
-      let behind : List ℕ = part s (elementsOffset s) (length s - elementsOffset s) in
-      let fields : List ℕ = getD s 0 0 ∷ getD s 1 0 ∷ (part s 2 k ++ pans) in
+      let behind : List ℕ = part s (macHeaderOf s .elements) (length s - macHeaderOf s .elements) in
       record {
-        fields = fields;
-        frame = rw (destination .0, destination .1, place) at (cut-up k m fits) ∙ sym (ap (λ (xs : List ℕ). getD s 0 0 ∷ getD s 1 0 ∷ xs) (append-assoc (part s 2 k) pans behind));
-        says = subst (λ (o : Fields). FixedFields fields (o .sequence) (o .pan) (o .source)) reads
+        fields = getD s 0 0 ∷ getD s 1 0 ∷ (part s 2 k ++ pans);
+        frame = rw (destination .0, destination .1, r .place-is) at (cut-up k m fits) ∙ sym (ap (λ (xs : List ℕ). getD s 0 0 ∷ getD s 1 0 ∷ xs) (append-assoc (part s 2 k) pans behind));
+        says = rw (← r .sequence-is, ← r .pan-is, ← r .source-is)
             (rw (two-bytes (2 + k)) at (fixed-fields (getD s 0 0) (getD s 1 0) (getD s (2 + k) 0) (getD s (2 + k + 1) 0) {suppression = suppression} {mode = mode} (rw (two-bytes 0) c) n-says address-says));
+        ends = r .end-is;
       }
 
   short-at : (at : ℕ) → SourceBytes 2 (part s at 2) (Short (leAt 2 s at))
@@ -201,83 +246,57 @@ module _ (s : List ℕ) (bytes : Bytes s) where
   absent-at = suppressed
 
   module _ (c : (suppression mode : ℕ) → leAt 2 s 0 / 256 % 2 ≡ suppression → leAt 2 s 0 / 16384 % 4 ≡ mode → FrameControl (leAt 2 s 0) suppression mode) (two : 2 ≤ leAt 2 s 0 / 16384 % 4)
-      (room : offsetsOf (controlOf (leAt 2 s 0)) .elements ≤ length s) (there : leAt 2 s (offsetsOf (controlOf (leAt 2 s 0)) .destination) ≡ 65535) where
-    number-says : leAt 2 s 0 / 256 % 2 ≡ 0 → OpeningSays s
-    unfolding sequenceOf sourceOf ifEq
-    number-says n =
-        by-test (eqb (leAt 2 s 0 / 16384 % 4) 3)
-        (λ t. says-form 0 3 1 8 number-extended (Number (getD s 2 0)) _ refl refl number-at (extended-at 7) (c 0 3 n (eqb-true _ _ t)) room there)
-        (λ t.
-        let not : leAt 2 s 0 / 16384 % 4 ≡ 3 → ⊥ = eqb-false _ _ t in
-        says-form 0 2 1 2 number-short (Number (getD s 2 0)) _ refl refl number-at (short-at 7) (c 0 2 n (omega (arith, not, two))) room there)
-
-    absent-says : leAt 2 s 0 / 256 % 2 ≡ 1 → OpeningSays s
-    unfolding sequenceOf sourceOf ifEq
-    absent-says n =
-        by-test (eqb (leAt 2 s 0 / 16384 % 4) 3)
-        (λ t. says-form 1 3 0 8 absent-extended Absent _ refl refl absent-at (extended-at 6) (c 1 3 n (eqb-true _ _ t)) room there)
-        (λ t.
-        let not : leAt 2 s 0 / 16384 % 4 ≡ 3 → ⊥ = eqb-false _ _ t in
-        says-form 1 2 0 2 absent-short Absent _ refl refl absent-at (short-at 6) (c 1 2 n (omega (arith, not, two))) room there)
-
+      (room : macHeaderOf s .elements ≤ macHeaderOf s .end) (there : macHeaderOf s .destination ≡ 65535) where
     both-say : OpeningSays s
+    unfolding addressOf ifEq
     both-say =
-        by-test (eqb (leAt 2 s 0 / 256 % 2) 0) (λ t. number-says (eqb-true _ _ t))
-        (λ t. let not : leAt 2 s 0 / 256 % 2 ≡ 0 → ⊥ = eqb-false _ _ t in absent-says (omega (arith, not)))
-
-  record FormSays (word : ℕ) : Type 0 where
-    kind : word % 8 ≡ 0
-    version : word / 4096 % 4 ≡ 2
-    security : word / 8 % 2 ≡ 0
-    destination : word / 1024 % 4 ≡ 2
-    source : 2 ≤ word / 16384 % 4
-    compression : word / 64 % 2 ≡ 1
-    elements : word / 512 % 2 ≡ 1
-
-  not-3 : wrongType ≡ done → ⊥
-  not-3 e = omega arith
-
-  not-4 : secured ≡ done → ⊥
-  not-4 e = omega arith
+        by-test (eqb (leAt 2 s 0 / 256 % 2) 0)
+        (λ t. by-test (eqb (leAt 2 s 0 / 16384 % 4) 3)
+        (λ u. says-form 0 3 1 8 number-extended (Number (getD s 2 0)) _ refl refl number-at (extended-at 7) (c 0 3 (eqb-true _ _ t) (eqb-true _ _ u)) room there)
+        (λ u. says-form 0 2 1 2 number-short (Number (getD s 2 0)) _ refl refl number-at (short-at 7) (c 0 2 (eqb-true _ _ t) (let not : leAt 2 s 0 / 16384 % 4 ≡ 3 → ⊥ = eqb-false _ _ u in omega (arith, not, two))) room there))
+        (λ t.
+        let not-0 : leAt 2 s 0 / 256 % 2 ≡ 0 → ⊥ = eqb-false _ _ t in
+        by-test (eqb (leAt 2 s 0 / 16384 % 4) 3)
+        (λ u. says-form 1 3 0 8 absent-extended Absent _ refl refl absent-at (extended-at 6) (c 1 3 (omega (arith, not-0)) (eqb-true _ _ u)) room there)
+        (λ u. says-form 1 2 0 2 absent-short Absent _ refl refl absent-at (short-at 6) (c 1 2 (omega (arith, not-0)) (let not : leAt 2 s 0 / 16384 % 4 ≡ 3 → ⊥ = eqb-false _ _ u in omega (arith, not, two))) room there))
 
   not-5 : addressing ≡ done → ⊥
   not-5 e = omega arith
 
-  form-says : (word : ℕ) → formFault (controlOf word) ≡ 0 → FormSays word
+  form-says : (word : ℕ) → formFault (controlOf word) ≡ 0 → (2 ≤ word / 16384 % 4) × ((suppression mode : ℕ) → word / 256 % 2 ≡ suppression → word / 16384 % 4 ≡ mode → FrameControl word suppression mode)
   unfolding formFault controlOf
   form-says word e =
-      let kind = was-eq _ _ _ _ _ e not-3 in
-      let version = was-eq _ _ _ _ _ (kind .1) not-3 in
-      let security = was-eq _ _ _ _ _ (version .1) not-4 in
+      let kind = was-eq _ _ _ _ _ e (λ (z : wrongType ≡ done). omega arith) in
+      let version = was-eq _ _ _ _ _ (kind .1) (λ (z : wrongType ≡ done). omega arith) in
+      let security = was-eq _ _ _ _ _ (version .1) (λ (z : secured ≡ done). omega arith) in
       let destination = was-eq _ _ _ _ _ (security .1) not-5 in
       let source = was-ge _ _ _ _ _ (destination .1) not-5 in
       let compression = was-eq _ _ _ _ _ (source .1) not-5 in
-      let elements = was-eq _ _ _ _ _ (compression .1) not-5 in
-      record { kind = kind .0; version = version .0; security = security .0; destination = destination .0; source = source .0; compression = compression .0; elements = elements .0 }
-
-  word-says : (word suppression mode : ℕ) → FormSays word → word / 256 % 2 ≡ suppression → word / 16384 % 4 ≡ mode → FrameControl word suppression mode
-  word-says word suppression mode f e g = record {
-    type = omega (arith, f .kind);
-    security = f .security;
-    compression = f .compression;
-    suppression = e;
-    elements = f .elements;
-    destination = f .destination;
-    version = f .version;
-    source = g;
-  }
+      let elements = was-eq _ _ _ _ _ (compression .1) not-5 in (
+        source .0,
+        λ suppression mode s-is m-is. record {
+          type = omega (arith, kind .0);
+          security = security .0;
+          compression = compression .0;
+          suppression = s-is;
+          elements = elements .0;
+          destination = destination .0;
+          version = version .0;
+          source = m-is;
+        },
+      )
 
   pub opening-says : macHeaderFault s ≡ 0 → (length s ≤ 125) × OpeningSays s
-  unfolding macHeaderFault
+  unfolding macHeaderFault policyFault
   opening-says e =
+      let control-of : macHeaderOf s .control ≡ controlOf (leAt 2 s 0) = unfold macHeaderOf in refl in
       let short = was-ge _ _ _ _ _ e (λ (z : frameTooLong ≡ done). omega arith) in
       let two = was-ge _ _ _ _ _ (short .1) (λ (z : cut ≡ done). omega arith) in (
         short .0,
-        each-eq (λ (n : ℕ). n ≡ 0 → OpeningSays s) _ _ (formFault (controlOf (leAt 2 s 0))) 0
+        each-eq (λ (n : ℕ). n ≡ 0 → OpeningSays s) _ _ (formFault (macHeaderOf s .control)) 0
             (λ formed g.
-            let f = form-says (leAt 2 s 0) formed in
+            let f = form-says (leAt 2 s 0) (rw control-of at formed) in
             let room = was-ge _ _ _ _ _ g (λ (z : cut ≡ done). omega arith) in
-            let there = was-eq _ _ _ _ _ (room .1) not-5 in
-            both-say (λ suppression mode. word-says (leAt 2 s 0) suppression mode f) (f .source) (room .0) (there .0))
+            both-say (f .1) (f .0) (room .0) (was-eq _ _ _ _ _ (room .1) not-5 .0))
             (λ bad g. absurd (bad g)) (two .1),
       )

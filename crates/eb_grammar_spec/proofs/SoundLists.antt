@@ -16,15 +16,14 @@ use Rattle.ie_step_spec.specs.declared.OuterStep.the-variants as outer
 use Rattle.ie_step_spec.specs.declared.InnerStep.{InnerStep}
 use Rattle.ie_step_spec.specs.declared.InnerStep.the-variants as inner
 use Rattle.ie_verdict_spec.specs.Verdict.{partFault}
-use Rattle.ie_walk_spec.specs.Walk.{bump, seenOf, skipOne, taken, stopped, partTaken, headerGo, headerList, outerGo, groupGo, payloadList}
+use Rattle.ie_walk_spec.specs.Walk.{HeaderList, blankWalk, inFront, seenOf, skipOne, taken, stopped, partTaken, headerGo, headerList, outerGo, groupGo, payloadList}
 use Rattle.ie_walk_spec.specs.declared.Walk.{Walk}
-use Rattle.ie_walk_spec.specs.declared.HeaderListEnd.{HeaderListEnd}
 use Rattle.eb_read_spec.specs.Claims.{Bytes}
 use Rattle.eb_read_spec.proofs.Each.{each-eq}
 use Rattle.eb_grammar_spec.specs.Grammar.{Descriptor, Element, SubElements, group-end, sub-element, PayloadElements, bytes-end, payload-end, payload-element, mlme, ietf-element, other-group, HeaderElements, header-end, header-element}
 use Rattle.eb_grammar_spec.proofs.Slices.{part, length-part, part-at, stands-part, part-element}
 use Rattle.eb_grammar_spec.proofs.SaidSteps.{InnerSays, Ietf, Skipped, OuterSays, HeaderSays, inner-says, outer-says, header-says}
-use Rattle.eb_grammar_spec.proofs.Notes.{Notes, notes-skip, notes-other, notes-taken}
+use Rattle.eb_grammar_spec.proofs.Notes.{Notes, notes-none, notes-skip, notes-other, notes-taken}
 
 -- a part without a fault was taken
 part-took : (s : List ℕ) (w : Walk) (kind from to at : ℕ) → partTaken s w kind from to at .fault ≡ 0
@@ -181,12 +180,12 @@ module _ (s : List ℕ) (bytes : Bytes s) where
         λ at to end w found low fit high enough n good. group-step bound outers groups at to end w found low fit high enough n (innerAt s at to) refl (inner-says s at bytes to) good,
       )
 
-  pub payload-sound : (at end : ℕ) (w : Walk) (found : List Element) → at ≤ end → end ≤ length s → Notes s w found → payloadList s at end w .fault ≡ 0 → OuterGives at end found (payloadList s at end w)
+  pub payload-sound : (at end : ℕ) → at ≤ end → end ≤ length s → payloadList s at end .fault ≡ 0 → OuterGives at end [] (payloadList s at end)
   unfolding payloadList
-  payload-sound at end w found low high = lists-sound (suc (2 * end)) .0 at end w found low high (omega arith)
+  payload-sound at end low high = lists-sound (suc (2 * end)) .0 at end blankWalk [] low high (omega arith) (notes-none s)
 
   -- ---- the header list
-  pub record HeaderGives (at end : ℕ) (r : HeaderListEnd) : Type 0 where
+  pub record HeaderGives (at end : ℕ) (r : HeaderList) : Type 0 where
     pub header : List ℕ
     pub low : ℕ
     pub high : ℕ
@@ -195,11 +194,11 @@ module _ (s : List ℕ) (bytes : Bytes s) where
     pub within : r .payload ≤ end
     pub splits : part s at (end - at) ≡ header ++ (low ∷ high ∷ part s (r .payload) (end - r .payload))
 
-  header-step : (bound at end n : ℕ) → ((to n : ℕ) → (headerGo bound s to end n .payload ≡ 0 → ⊥) → HeaderGives to end (headerGo bound s to end n)) → (o : HeaderStep) → headerAt s at end ≡ o → HeaderSays o s at end
-      → (headerGo (suc bound) s at end n .payload ≡ 0 → ⊥) → HeaderGives at end (headerGo (suc bound) s at end n)
-  unfolding headerGo part
-  header-step bound at end n go header.End e k = rw (e, headerGo) (λ some. absurd (some refl))
-  header-step bound at end n go (header.Payload from) e (starts, low, d) =
+  header-step : (bound at end : ℕ) → ((to : ℕ) → (headerGo bound s to end .payload ≡ 0 → ⊥) → HeaderGives to end (headerGo bound s to end)) → (o : HeaderStep) → headerAt s at end ≡ o → HeaderSays o s at end
+      → (headerGo (suc bound) s at end .payload ≡ 0 → ⊥) → HeaderGives at end (headerGo (suc bound) s at end)
+  unfolding headerGo inFront part
+  header-step bound at end go header.End e k = rw (e, headerGo) (λ some. absurd (some refl))
+  header-step bound at end go (header.Payload from) e (starts, low, d) =
       rw (e, headerGo) (λ some. record {
         header = [];
         low = getD s at 0;
@@ -210,9 +209,9 @@ module _ (s : List ℕ) (bytes : Bytes s) where
         splits = part-element s at 0 end (omega (arith, starts, low))
             ∙ ap (λ (xs : List ℕ). getD s at 0 ∷ getD s (at + 1) 0 ∷ xs) (part-at s (at + 2 + 0) from (end - (at + 2 + 0)) (end - from) (omega (arith, starts)) (omega (arith, starts)));
       })
-  header-step bound at end n go (header.Element id from to) e l =
+  header-step bound at end go (header.Element id from to) e l =
       rw (e, headerGo) (λ some.
-      let g = go to (bump n) some in
+      let g = go to some in
       let c : List ℕ = part s (at + 2) (l .size) in
       record {
         header = getD s at 0 ∷ getD s (at + 1) 0 ∷ (c ++ g .header);
@@ -224,13 +223,13 @@ module _ (s : List ℕ) (bytes : Bytes s) where
         splits = part-element s at (l .size) end (omega (arith, l .ends, l .fits))
             ∙ ap (λ (xs : List ℕ). getD s at 0 ∷ getD s (at + 1) 0 ∷ xs) (ap (λ (xs : List ℕ). c ++ xs) (part-at s (at + 2 + l .size) to (end - (at + 2 + l .size)) (end - to) (sym (l .ends)) (omega (arith, l .ends)) ∙ g .splits) ∙ sym (append-assoc c (g .header) _));
       })
-  header-step bound at end n go (header.Fault number) e k = rw (e, headerGo) (λ some. absurd (some refl))
+  header-step bound at end go (header.Fault number) e k = rw (e, headerGo) (λ some. absurd (some refl))
 
-  header-go : (bound at end n : ℕ) → (headerGo bound s at end n .payload ≡ 0 → ⊥) → HeaderGives at end (headerGo bound s at end n)
+  header-go : (bound at end : ℕ) → (headerGo bound s at end .payload ≡ 0 → ⊥) → HeaderGives at end (headerGo bound s at end)
   unfolding headerGo
-  header-go zero at end n some = absurd (some refl)
-  header-go (suc bound) at end n some = header-step bound at end n (λ to m. header-go bound to end m) (headerAt s at end) refl (header-says s at bytes end) some
+  header-go zero at end some = absurd (some refl)
+  header-go (suc bound) at end some = header-step bound at end (λ to. header-go bound to end) (headerAt s at end) refl (header-says s at bytes end) some
 
   pub header-sound : (at end : ℕ) → (headerList s at end .payload ≡ 0 → ⊥) → HeaderGives at end (headerList s at end)
   unfolding headerList
-  header-sound at end = header-go (suc end) at end 0
+  header-sound at end = header-go (suc end) at end

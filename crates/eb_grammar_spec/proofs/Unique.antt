@@ -6,8 +6,8 @@ use mathlib.Core.List.{List, [], _∷_, _++_, append-assoc}
 use native.Mathlib.Omega.{arith}
 use lib.ListN.{length, getD, take, drop}
 use lib.Seq.{take-at, drop-at}
-use Rattle.eb_record_spec.specs.declared.SequenceNumber.{SequenceNumber}
-use Rattle.eb_record_spec.specs.declared.Address.{Address}
+use Rattle.mac_header_spec.specs.declared.SequenceNumber.{SequenceNumber}
+use Rattle.mac_header_spec.specs.declared.Address.{Address}
 use Rattle.eb_grammar_spec.specs.Row.{le, bits}
 use Rattle.eb_grammar_spec.specs.Grammar.{numbered, suppressed, short-source, extended-source, FixedFields, fixed-fields, Descriptor, HeaderElements, header-end, header-element, Element, SubDescriptor, short-id, long-id, SubElements, group-end, sub-element, Group, mlme, ietf-element, other-group, PayloadElements, bytes-end, payload-end, payload-element}
 

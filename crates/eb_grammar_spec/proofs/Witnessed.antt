@@ -8,15 +8,17 @@ use lib.ListN.{length, take, drop}
 use Rattle.octets_spec.specs.Choice.{ifOn, ifLt, ifEq}
 use Rattle.octets_spec.specs.Counted.{counted, padded}
 use Rattle.octets_spec.specs.Number.{leAt, beAt}
-use Rattle.mac_header_spec.specs.Control.{controlOf, formFault, addressLength, offsetsOf, macHeaderFault}
+use Rattle.mac_header_spec.specs.Control.{controlOf}
+use Rattle.mac_header_spec.specs.Fields.{addressLength, offsetsOf, macHeaderOf, sequenceOf, addressOf}
 use Rattle.ie_step_spec.specs.Header.{headerWord, headerAt}
 use Rattle.ie_step_spec.specs.Payload.{groupOf, outerWord, outerAt, innerWord, innerAt}
 use Rattle.ie_verdict_spec.specs.Verdict.{onceOnly, syncFault, timeslotFault, hoppingFault, slotframeShape, slotframeLimits, slotframeFault, joiningFault, timeslotsFit, slotframeFaultAt, partFault}
-use Rattle.ie_walk_spec.specs.Walk.{bump, seenOf, skipOne, taken, stopped, partTaken, headerGo, headerList, outerGo, groupGo, payloadList}
-use Rattle.eb_read_spec.specs.Decode.{sequenceOf, sourceOf, synchronizationAt, timingAt, templateAt, linkAt, slotframeAt, networkOffset, joiningAt, macHeaderOf, decoded}
-use Rattle.eb_read_spec.specs.Read.{walkStart, blankWalk, elementsWalk, missing, walkNumber, elementsOffset, examined, readFrame}
-use Rattle.eb_record_spec.specs.declared.SequenceNumber.the-variants.{Absent}
-use Rattle.eb_record_spec.specs.declared.Address.the-variants.{Short}
+use Rattle.ie_walk_spec.specs.Walk.{blankWalk, inFront, skippedOver, seenOf, skipOne, taken, stopped, partTaken, headerGo, headerList, outerGo, groupGo, payloadList}
+use Rattle.eb_read_spec.specs.Policy.{formFault, policyFault, macHeaderFault}
+use Rattle.eb_read_spec.specs.Decode.{synchronizationAt, timingAt, templateAt, linkAt, slotframeAt, networkOffset, joiningAt, decoded}
+use Rattle.eb_read_spec.specs.Read.{walkStart, skippedBefore, behindHeader, elementsWalk, missing, walkNumber, examined, readFrame}
+use Rattle.mac_header_spec.specs.declared.SequenceNumber.the-variants.{Absent}
+use Rattle.mac_header_spec.specs.declared.Address.the-variants.{Short}
 use Rattle.eb_read_spec.specs.Claims.{Bytes}
 use Rattle.eb_read_spec.specs.Witnesses.{shortest, shortestRecord}
 use Rattle.eb_read_spec.specs.declared.ReadAnswer.{ReadAnswer}
@@ -41,7 +43,7 @@ shortest-is-of-the-grammar = (
 )
 
 manifold-is-read : _≡_ {A = ReadAnswer} (readFrame manifold) (record { number = 0; beacon = manifoldRecord })
-unfolding ifOn ifLt ifEq counted padded leAt beAt controlOf formFault addressLength offsetsOf macHeaderFault headerWord headerAt groupOf outerWord outerAt innerWord innerAt onceOnly syncFault timeslotFault hoppingFault slotframeShape slotframeLimits slotframeFault joiningFault timeslotsFit slotframeFaultAt partFault bump seenOf skipOne taken stopped partTaken headerGo headerList outerGo groupGo payloadList sequenceOf sourceOf synchronizationAt timingAt templateAt linkAt slotframeAt networkOffset joiningAt macHeaderOf decoded walkStart blankWalk elementsWalk missing walkNumber elementsOffset examined readFrame
+unfolding ifOn ifLt ifEq counted padded leAt beAt controlOf formFault addressLength offsetsOf macHeaderOf policyFault macHeaderFault headerWord headerAt groupOf outerWord outerAt innerWord innerAt onceOnly syncFault timeslotFault hoppingFault slotframeShape slotframeLimits slotframeFault joiningFault timeslotsFit slotframeFaultAt partFault inFront skippedOver seenOf skipOne taken stopped partTaken headerGo headerList outerGo groupGo payloadList sequenceOf addressOf synchronizationAt timingAt templateAt linkAt slotframeAt networkOffset joiningAt decoded walkStart blankWalk skippedBefore behindHeader elementsWalk missing walkNumber examined readFrame
 manifold-is-read = refl
 
 pub manifold-is-of-the-grammar : ManifoldIsOfTheGrammar

@@ -8,10 +8,10 @@ use lib.Dec.{eqb}
 use lib.ListN.{length, replicate}
 use Rattle.octets_spec.specs.Choice.{ifEq}
 use Rattle.eb_record_spec.specs.Record.{blankLink, blankJoining}
-use Rattle.eb_record_spec.specs.declared.SequenceNumber.{SequenceNumber}
-use Rattle.eb_record_spec.specs.declared.SequenceNumber.the-variants.{Absent, Number}
-use Rattle.eb_record_spec.specs.declared.Address.{Address}
-use Rattle.eb_record_spec.specs.declared.Address.the-variants.{Short, Extended}
+use Rattle.mac_header_spec.specs.declared.SequenceNumber.{SequenceNumber}
+use Rattle.mac_header_spec.specs.declared.SequenceNumber.the-variants.{Absent, Number}
+use Rattle.mac_header_spec.specs.declared.Address.{Address}
+use Rattle.mac_header_spec.specs.declared.Address.the-variants.{Short, Extended}
 use Rattle.eb_record_spec.specs.declared.TimeslotTemplate.{TimeslotTemplate}
 use Rattle.eb_record_spec.specs.declared.Link.{Link}
 use Rattle.eb_record_spec.specs.declared.Slotframe.{Slotframe}

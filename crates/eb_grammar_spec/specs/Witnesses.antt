@@ -4,8 +4,8 @@ use mathlib.Core.Bool.{false, true}
 use mathlib.Core.List.{List, [], _∷_, _++_}
 use lib.ListN.{take, drop, replicate}
 use Rattle.eb_record_spec.specs.Record.{blankLink}
-use Rattle.eb_record_spec.specs.declared.SequenceNumber.the-variants.{Number}
-use Rattle.eb_record_spec.specs.declared.Address.the-variants.{Extended}
+use Rattle.mac_header_spec.specs.declared.SequenceNumber.the-variants.{Number}
+use Rattle.mac_header_spec.specs.declared.Address.the-variants.{Extended}
 use Rattle.eb_record_spec.specs.declared.Beacon.{Beacon}
 use Rattle.eb_read_spec.specs.Witnesses.{shortest, shortestRecord}
 use Rattle.eb_grammar_spec.specs.Grammar.{Accepts}

@@ -6,10 +6,10 @@ ghost use lib.ListN.{length};
 ghost use Rattle.eb_write_spec.specs.Limits.{sequenceFits, synchronizationFits, templateFits, linkFits, linkUnused, slotframeFits, addressFits, presentFits, absentFits, joiningFits, fits};
 ghost use Rattle.eb_record_spec.specs.Form.{sourceFits};
 ghost use Rattle.eb_write_spec.specs.Range.{allFrom, below};
-use eb_record_spec::Address;
 use eb_record_spec::JoiningInformation;
 use eb_record_spec::Link;
-use eb_record_spec::SequenceNumber;
+use mac_header_spec::Address;
+use mac_header_spec::SequenceNumber;
 
 pub mod sizes;
 

@@ -6,10 +6,10 @@ ghost use lib.ListN.{length, drop};
 ghost use Rattle.octets_spec.specs.Choice.{ifOn};
 ghost use Rattle.eb_write_spec.specs.Frame.{sequenceBytes, sourceBytes, lastWidth, templateSize, groupSize, joiningSize, frameOf, frameLength};
 ghost use Rattle.eb_write_spec.specs.Limits.{fits};
-use eb_record_spec::Address;
 use eb_record_spec::JoiningInformation;
-use eb_record_spec::SequenceNumber;
 use eb_record_spec::TimeslotTemplate;
+use mac_header_spec::Address;
+use mac_header_spec::SequenceNumber;
 
 // The bytes of a short address.
 const SHORT_SIZE: usize = 2;

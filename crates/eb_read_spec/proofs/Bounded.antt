@@ -13,39 +13,28 @@ use Rattle.ie_step_spec.specs.declared.InnerStep.{InnerStep}
 use Rattle.ie_step_spec.specs.declared.InnerStep.the-variants as inner
 use Rattle.ie_step_spec.specs.declared.OuterStep.{OuterStep}
 use Rattle.ie_step_spec.specs.declared.OuterStep.the-variants as outer
-use Rattle.ie_walk_spec.specs.Walk.{bump, groupGo, headerGo, outerGo, partTaken, skipOne}
+use Rattle.ie_walk_spec.specs.Walk.{inFront, groupGo, headerGo, outerGo, partTaken, skipOne}
 use Rattle.ie_walk_spec.specs.declared.Walk.{Walk}
 use Rattle.eb_read_spec.specs.Claims.{BoundsDoNotMatter}
 use Rattle.eb_read_spec.proofs.Each.{each-lt}
-use Rattle.eb_read_spec.proofs.Within.{inner-within, outer-within}
+use Rattle.eb_read_spec.proofs.Within.{header-within, inner-within, outer-within}
 
 -- ---- the header list
-header-within : (s : List ℕ) (at end : ℕ) → headerWithin (headerAt s at end) at end
-unfolding headerAt headerWord
-header-within s at end =
-    let P : HeaderStep → Type 0 = λ o. headerWithin o at end in
-    each-lt P _ _ _ _
-    (λ more. each-lt P _ _ _ _ (λ one. tt)
-    (λ two. each-lt P _ _ _ _ (λ over. tt)
-    (λ fits. either-eq P _ _ tt
-    (either-eq P _ _ (either-eq P _ _ (omega arith, omega (arith, two)) tt _ _) (either-eq P _ _ (either-eq P _ _ tt tt _ _) (omega arith, omega arith, omega (arith, two, fits)) _ _) _ _) _ _)))
-    (λ none. tt)
-
 -- what the rest of the header list gives at two bounds
 abbrev HeaderSame : ℕ → Type 0
-HeaderSame one = (other : ℕ) (s : List ℕ) (at end skipped : ℕ) → end - at < one → end - at < other → headerGo one s at end skipped ≡ headerGo other s at end skipped
+HeaderSame one = (other : ℕ) (s : List ℕ) (at end : ℕ) → end - at < one → end - at < other → headerGo one s at end ≡ headerGo other s at end
 
-header-step : (one other : ℕ) → HeaderSame one → (s : List ℕ) (at end skipped : ℕ) → end - at < suc one → end - at < suc other → (o : HeaderStep) → headerAt s at end ≡ o → headerWithin o at end → headerGo (suc one) s at end skipped ≡ headerGo (suc other) s at end skipped
+header-step : (one other : ℕ) → HeaderSame one → (s : List ℕ) (at end : ℕ) → end - at < suc one → end - at < suc other → (o : HeaderStep) → headerAt s at end ≡ o → headerWithin o at end → headerGo (suc one) s at end ≡ headerGo (suc other) s at end
 unfolding headerGo
-header-step one other rest s at end skipped h k header.End e w = rw (headerGo, e)
-header-step one other rest s at end skipped h k (header.Payload from) e w = rw (headerGo, e)
-header-step one other rest s at end skipped h k (header.Element id from to) e w = rw (headerGo, e) (rest other s to end (bump skipped) (omega (arith, w)) (omega (arith, w)))
-header-step one other rest s at end skipped h k (header.Fault number) e w = rw (headerGo, e)
+header-step one other rest s at end h k header.End e w = rw (headerGo, e)
+header-step one other rest s at end h k (header.Payload from) e w = rw (headerGo, e)
+header-step one other rest s at end h k (header.Element id from to) e w = rw (headerGo, e) (ap (inFront _) (rest other s to end (omega (arith, w)) (omega (arith, w))))
+header-step one other rest s at end h k (header.Fault number) e w = rw (headerGo, e)
 
 header-same : (one : ℕ) → HeaderSame one
-header-same zero other s at end skipped h k = absurd (omega arith)
-header-same (suc one) zero s at end skipped h k = absurd (omega arith)
-header-same (suc one) (suc other) s at end skipped h k = header-step one other (header-same one) s at end skipped h k (headerAt s at end) refl (header-within s at end)
+header-same zero other s at end h k = absurd (omega arith)
+header-same (suc one) zero s at end h k = absurd (omega arith)
+header-same (suc one) (suc other) s at end h k = header-step one other (header-same one) s at end h k (headerAt s at end) refl (header-within s at end)
 
 -- ---- the payload list and its groups
 abbrev OuterSame : ℕ → Type 0
@@ -92,4 +81,4 @@ both-same (suc one) = (
     group-other one rest (suc other) s at to end walk a b h k = group-step one other (rest .0) (rest .1) s at to end walk a b h k (innerAt s at to) refl (inner-within s at to)
 
 pub bounds-do-not-matter : BoundsDoNotMatter
-bounds-do-not-matter s at end one other = (λ skipped h k. header-same one other s at end skipped h k, λ walk h k. both-same one .0 other s at end walk h k)
+bounds-do-not-matter s at end one other = (λ h k. header-same one other s at end h k, λ walk h k. both-same one .0 other s at end walk h k)

@@ -7,11 +7,12 @@ use lib.ListN.{length}
 use Rattle.octets_spec.specs.Choice.{ifEq}
 use Rattle.octets_spec.proofs.ChoiceLaws.{by-lt}
 use Rattle.eb_record_spec.specs.declared.Beacon.{Beacon}
-use Rattle.mac_header_spec.specs.Control.{macHeaderFault}
-use Rattle.mac_header_spec.proofs.ControlLaws.{too-long}
+use Rattle.mac_header_spec.specs.Fields.{macHeaderOf}
+use Rattle.eb_read_spec.specs.Policy.{macHeaderFault}
 use Rattle.eb_read_spec.specs.Read.{examined, readFrame}
 use Rattle.eb_read_spec.specs.Claims.{NumbersTo8, OneIsTheLength}
 use Rattle.eb_read_spec.specs.declared.ReadAnswer.{ReadAnswer}
+use Rattle.eb_read_spec.proofs.PolicyLaws.{too-long}
 use Rattle.eb_read_spec.proofs.Numbers.{at-most-8, not-1, examined-small}
 
 -- the record does not change the number
@@ -28,8 +29,8 @@ unfolding readFrame answered
 number-of s = kept (examined s .number) _ _
 
 long-is-1 : (s : List ℕ) → 125 < length s → examined s .number ≡ 1
-unfolding examined ifEq
-long-is-1 s h = let e : macHeaderFault s ≡ 1 = sym (too-long s h) in rw e
+unfolding examined macHeaderFault ifEq
+long-is-1 s h = let e = sym (too-long (length s) (macHeaderOf s) h) in rw e
 
 pub numbers-to-8 : NumbersTo8
 numbers-to-8 s =

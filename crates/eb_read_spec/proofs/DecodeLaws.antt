@@ -9,43 +9,20 @@ use Rattle.octets_spec.specs.Choice.{ifEq}
 use Rattle.octets_spec.specs.Number.{leAt, beAt}
 use Rattle.octets_spec.specs.Counted.{counted, padded}
 use Rattle.octets_spec.proofs.ChoiceLaws.{if-lt, if-eq, if-ne}
-use Rattle.mac_header_spec.specs.Control.{controlOf, offsetsOf}
-use Rattle.mac_header_spec.specs.declared.Control.{Control}
-use Rattle.mac_header_spec.specs.declared.FieldOffsets.{FieldOffsets}
 use Rattle.ie_walk_spec.specs.declared.Walk.{Walk}
 use Rattle.eb_record_spec.specs.Record.{blankLink, blankJoining, blankBeacon}
-use Rattle.eb_record_spec.specs.declared.SequenceNumber.{SequenceNumber}
-use Rattle.eb_record_spec.specs.declared.Address.{Address}
+use Rattle.mac_header_spec.specs.Fields.{macHeaderOf, sequenceOf, addressOf}
+use Rattle.mac_header_spec.specs.declared.SequenceNumber.{SequenceNumber}
+use Rattle.mac_header_spec.specs.declared.Address.{Address}
 use Rattle.eb_record_spec.specs.declared.Synchronization.{Synchronization}
 use Rattle.eb_record_spec.specs.declared.TimeslotTemplate.{TimeslotTemplate}
 use Rattle.eb_record_spec.specs.declared.Slotframe.{Slotframe}
 use Rattle.eb_record_spec.specs.declared.JoiningInformation.{JoiningInformation}
 use Rattle.eb_record_spec.specs.declared.Beacon.{Beacon}
-use Rattle.eb_record_spec.specs.declared.SequenceNumber.the-variants.{Absent, Number}
-use Rattle.eb_record_spec.specs.declared.Address.the-variants.{Short, Extended}
 use Rattle.eb_record_spec.specs.declared.Link.{Link}
-use Rattle.eb_read_spec.specs.Decode.{sequenceOf, sourceOf, synchronizationAt, timingAt, templateAt, linkAt, slotframeAt, networkOffset, joiningAt, macHeaderOf, decoded}
-use Rattle.eb_read_spec.specs.declared.MacHeader.{MacHeader}
+use Rattle.eb_read_spec.specs.Decode.{synchronizationAt, timingAt, templateAt, linkAt, slotframeAt, networkOffset, joiningAt, decoded}
 
--- ---- fields
 module _ (s : List ℕ) where
-  pub some-sequence : (suppressed n : ℕ) → suppressed ≡ 0 → n ≡ getD s 2 0 → Number n ≡ sequenceOf s suppressed
-  unfolding sequenceOf
-  some-sequence suppressed n h e = if-eq _ _ suppressed 0 h (rw e)
-
-  pub no-sequence : (suppressed : ℕ) → (suppressed ≡ 0 → ⊥) → Absent ≡ sequenceOf s suppressed
-  unfolding sequenceOf
-  no-sequence suppressed h = if-ne _ _ suppressed 0 h refl
-
-  module _ (mode at n : ℕ) where
-    pub extended : mode ≡ 3 → n ≡ leAt 8 s at → Extended n ≡ sourceOf s mode at
-    unfolding sourceOf
-    extended h e = if-eq _ _ mode 3 h (rw e)
-
-    pub short : (mode ≡ 3 → ⊥) → n ≡ leAt 2 s at → Short n ≡ sourceOf s mode at
-    unfolding sourceOf
-    short h e = if-ne _ _ mode 3 h (rw e)
-
   pub synchronizes : (at asn metric : ℕ) → asn ≡ leAt 5 s at → metric ≡ getD s (at + 5) 0 → record { asn = asn; metric = metric } ≡ synchronizationAt s at
   unfolding synchronizationAt
   synchronizes at asn metric e f = rw (e, f)
@@ -107,14 +84,9 @@ module _ (s : List ℕ) where
     joining-is word skip length address all h e f g k m = if-ne _ _ at 0 h (rw (k, m, g, f, e))
 
   -- ---- the whole
-  pub opens : (word pan : ℕ) (control : Control) (offsets : FieldOffsets) (sequence : SequenceNumber) (source : Address) → word ≡ leAt 2 s 0 → control ≡ controlOf word → offsets ≡ offsetsOf control
-      → sequence ≡ sequenceOf s (control .suppressed) → pan ≡ leAt 2 s (offsets .pan) → source ≡ sourceOf s (control .source) (offsets .source)
-      → record { sequence = sequence; pan = pan; source = source } ≡ macHeaderOf s
-  unfolding macHeaderOf
-  opens word pan control offsets sequence source e f g h k m = rw (h, k, m, g, f, e)
-
-  pub decodes : (w : Walk) (o : MacHeader) (y : Synchronization) (t : TimeslotTemplate) (length hopping : ℕ) (f : Slotframe) (j : JoiningInformation) → o ≡ macHeaderOf s → y ≡ synchronizationAt s (w .synchronization)
-      → length ≡ w .timeslotend - w .timeslot → t ≡ templateAt s (w .timeslot) length → hopping ≡ getD s (w .hopping) 0 → f ≡ slotframeAt s (w .slotframe) → j ≡ joiningAt s (w .joining) (w .joiningend)
-      → record { sequence = o .sequence; pan = o .pan; source = o .source; synchronization = y; timeslot = t; hopping = hopping; slotframe = f; joining = j } ≡ decoded s w
+  pub decodes : (w : Walk) (sequence : SequenceNumber) (pan : ℕ) (source : Address) (y : Synchronization) (t : TimeslotTemplate) (size hopping : ℕ) (f : Slotframe) (j : JoiningInformation) → sequence ≡ sequenceOf (macHeaderOf s) → pan ≡ macHeaderOf s .pan
+      → source ≡ addressOf (macHeaderOf s .control .source) (macHeaderOf s .source) → y ≡ synchronizationAt s (w .synchronization)
+      → size ≡ w .timeslotend - w .timeslot → t ≡ templateAt s (w .timeslot) size → hopping ≡ getD s (w .hopping) 0 → f ≡ slotframeAt s (w .slotframe) → j ≡ joiningAt s (w .joining) (w .joiningend)
+      → record { sequence = sequence; pan = pan; source = source; synchronization = y; timeslot = t; hopping = hopping; slotframe = f; joining = j } ≡ decoded s w
   unfolding decoded
-  decodes w o y t length hopping f j a b c d e g h = rw (a, b, d, c, e, g, h)
+  decodes w sequence pan source y t size hopping f j a k m b c d e g h = rw (a, k, m, b, d, c, e, g, h)

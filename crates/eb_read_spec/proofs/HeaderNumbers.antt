@@ -9,12 +9,13 @@ use lib.Dec.{eqb}
 use borrow.Author.Tests.{eqb-false, eqb-true}
 use Rattle.octets_spec.specs.Number.{leAt}
 use Rattle.octets_spec.proofs.ChoiceLaws.{by-lt, by-test, either-eq, either-lt, if-eq, if-ge, if-lt, if-ne, was-ge, was-ne}
-use Rattle.mac_header_spec.specs.Control.{controlOf, formFault, macHeaderFault, offsetsOf}
+use Rattle.mac_header_spec.specs.Fields.{macHeaderOf}
 use Rattle.mac_header_spec.specs.declared.Control.{Control}
-use Rattle.mac_header_spec.proofs.ControlLaws.{bad-form, no-broadcast, no-control, too-long}
+use Rattle.eb_read_spec.specs.Policy.{formFault, policyFault, macHeaderFault}
 use Rattle.eb_read_spec.specs.Claims.{AnotherDestination, FiveIsTheAddressing, FourIsSecurity, HasControl, IsAddressed, IsBeacon, ThreeIsTheType}
-use Rattle.eb_read_spec.specs.Read.{elementsOffset, elementsWalk, examined, readFrame, walkNumber}
+use Rattle.eb_read_spec.specs.Read.{elementsWalk, examined, readFrame, walkNumber}
 use Rattle.eb_read_spec.specs.declared.Examination.{Examination}
+use Rattle.eb_read_spec.proofs.PolicyLaws.{bad-form, no-broadcast, no-control, too-long}
 use Rattle.eb_read_spec.proofs.Claimed.{number-of}
 use Rattle.eb_read_spec.proofs.Each.{each-eq}
 use Rattle.eb_read_spec.proofs.Numbers.{Late, elements-small, number-small}
@@ -24,7 +25,7 @@ by-eq a b same other = by-test (eqb a b) (λ t. same (eqb-true a b t)) (λ t. ot
 
 module _ (s : List ℕ) where
   abbrev control : Control
-  control = controlOf (leAt 2 s 0)
+  control = macHeaderOf s .control
 
   -- ---- the number of reading, by that of the checks before the elements
   from-header : (n : ℕ) → (n ≡ 0 → ⊥) → macHeaderFault s ≡ n → readFrame s .number ≡ n
@@ -35,17 +36,19 @@ module _ (s : List ℕ) where
   unfolding examined
   to-header n early e =
       each-eq (λ (x : Examination). x .number ≡ n → macHeaderFault s ≡ n) _ _ (macHeaderFault s) 0
-      (λ none f. absurd (early (subst Late f (number-small _ (elements-small s (elementsOffset s) (length s))))))
+      (λ none f. absurd (early (subst Late f (number-small _ (elements-small s (macHeaderOf s .elements) (macHeaderOf s .end))))))
       (λ bad f. f) (sym (number-of s) ∙ e)
 
   -- ---- frame control
   has-control : (n : ℕ) → (n ≡ 1 → ⊥) → (n ≡ 2 → ⊥) → macHeaderFault s ≡ n → HasControl s
+  unfolding macHeaderFault
   has-control n not-1 not-2 e =
-      by-lt 125 (length s) (λ long. absurd (not-1 (sym e ∙ sym (too-long s long))))
-      (λ short. by-lt (length s) 2 (λ none. absurd (not-2 (sym e ∙ sym (no-control s short none)))) (λ some. (short, some)))
+      by-lt 125 (length s) (λ long. absurd (not-1 (sym e ∙ sym (too-long (length s) (macHeaderOf s) long))))
+      (λ short. by-lt (length s) 2 (λ none. absurd (not-2 (sym e ∙ sym (no-control (length s) (macHeaderOf s) short none)))) (λ some. (short, some)))
 
   by-form : (n : ℕ) → HasControl s → (n ≡ 0 → ⊥) → formFault control ≡ n → macHeaderFault s ≡ n
-  by-form n has some e = sym (bad-form s (has .0) control (formFault control) (leAt 2 s 0) (has .1) refl refl refl (λ none. some (sym e ∙ none))) ∙ e
+  unfolding macHeaderFault
+  by-form n has some e = sym (bad-form (length s) (macHeaderOf s) (has .0) (has .1) (formFault control) refl (λ none. some (sym e ∙ none))) ∙ e
 
   is-beacon : IsBeacon s ⊎ ((IsBeacon s → ⊥) × (formFault control ≡ 3))
   unfolding formFault
@@ -79,18 +82,19 @@ module _ (s : List ℕ) where
   module _ (has : HasControl s) where
     -- behind frame control: the fields are cut, or the destination is another, or there is no fault
     past : formFault control ≡ 0 → (P : ℕ → Type 0) → P 2 → P 0 → P 5 → P (macHeaderFault s)
-    unfolding macHeaderFault
+    unfolding macHeaderFault policyFault
     past form P cut fine other =
         subst P (if-ge _ _ _ _ (has .0) (if-ge _ _ _ _ (has .1) (if-eq _ _ _ _ form refl))) (either-lt P _ _ cut (either-eq P _ _ fine other _ _) _ _)
 
     by-destination : formFault control ≡ 0 → macHeaderFault s ≡ 5 → AnotherDestination s
-    unfolding macHeaderFault
+    unfolding macHeaderFault policyFault
     by-destination form e =
-        let whole = was-ge _ _ 5 (length s) (offsetsOf control .elements) (if-ge _ _ _ _ (has .0) (if-ge _ _ _ _ (has .1) (if-eq _ _ _ _ form refl)) ∙ e) (λ z. omega arith) in
+        let whole = was-ge _ _ 5 (macHeaderOf s .end) (macHeaderOf s .elements) (if-ge _ _ _ _ (has .0) (if-ge _ _ _ _ (has .1) (if-eq _ _ _ _ form refl)) ∙ e) (λ z. omega arith) in
         (whole .0, was-ne _ _ 5 _ _ (whole .1) (λ z. omega arith) .0)
 
     another-destination : formFault control ≡ 0 → AnotherDestination s → macHeaderFault s ≡ 5
-    another-destination form other = sym (no-broadcast s (has .0) control (formFault control) (leAt 2 s 0) (has .1) refl refl refl form (offsetsOf control) refl (other .0) _ refl (other .1))
+    unfolding macHeaderFault
+    another-destination form other = sym (no-broadcast (length s) (macHeaderOf s) (has .0) (has .1) (formFault control) refl form (other .0) (other .1))
 
     -- a beacon that is not secured has 0, 2 or 5, and another number after its elements
     plain-number : (n : ℕ) → (n ≡ 2 → ⊥) → (n ≡ 0 → ⊥) → (n ≡ 5 → ⊥) → IsBeacon s → control .security ≡ 0 → macHeaderFault s ≡ n → ⊥
@@ -111,7 +115,7 @@ three-is-the-type s = (
       let has = has-control s 3 (λ z. omega arith) (λ z. omega arith) fault in (
         has,
         λ is.
-            by-eq (controlOf (leAt 2 s 0) .security) 0 (λ plain. plain-number s has 3 (λ z. omega arith) (λ z. omega arith) (λ z. omega arith) is plain fault)
+            by-eq (macHeaderOf s .control .security) 0 (λ plain. plain-number s has 3 (λ z. omega arith) (λ z. omega arith) (λ z. omega arith) is plain fault)
             (λ bad. let other = secured-of s has is bad in omega (arith, fault)),
       ),
   λ c. from-header s 3 (λ z. omega arith) (by-form s 3 (c .0) (λ z. omega arith) (⊎-elim (λ is. absurd (c .1 is)) (λ b. b .1) (is-beacon s))),
@@ -133,7 +137,7 @@ five-is-the-addressing s = (
       let fault = to-header s 5 (λ z. z) e in
       let has = has-control s 5 (λ z. omega arith) (λ z. omega arith) fault in
       let is = beacon-of s has 5 (λ z. omega arith) fault in
-      let plain : controlOf (leAt 2 s 0) .security ≡ 0 = by-eq (controlOf (leAt 2 s 0) .security) 0 (λ plain. plain) (λ bad. absurd (let other = secured-of s has is bad in omega (arith, fault))) in
+      let plain : macHeaderOf s .control .security ≡ 0 = by-eq (macHeaderOf s .control .security) 0 (λ plain. plain) (λ bad. absurd (let other = secured-of s has is bad in omega (arith, fault))) in
       (has, is, plain, ⊎-elim (λ a. inr (a .0, by-destination s has (a .1) fault)) (λ a. inl (a .0)) (is-addressed s is plain)),
   λ c.
       from-header s 5 (λ z. omega arith)

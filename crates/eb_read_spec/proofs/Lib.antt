@@ -1,3 +1,4 @@
+pub mod PolicyLaws
 pub mod DecodeLaws
 pub mod Numbers
 pub mod ReadLaws
@@ -14,3 +15,4 @@ pub mod NetworkRecord
 pub mod HeaderNumbers
 pub mod Bounded
 pub mod Witnessed
+pub mod Skipped

@@ -7,8 +7,9 @@ use lib.ListN.{length, take, drop}
 use Rattle.octets_spec.specs.Number.{beAt}
 use Rattle.octets_spec.proofs.ChoiceLaws.{if-lt, if-ge, if-eq, if-ne, choices}
 use Rattle.eb_read_spec.specs.Decode.{networkOffset}
+use Rattle.ie_walk_spec.specs.Walk.{blankWalk}
 use Rattle.ie_walk_spec.specs.declared.Walk.{Walk}
-use Rattle.eb_read_spec.specs.Read.{walkStart, blankWalk, examined, acceptedWalk}
+use Rattle.eb_read_spec.specs.Read.{examined, acceptedWalk}
 use Rattle.eb_read_spec.specs.Inside.{JoiningInside}
 use Rattle.eb_read_spec.specs.Network.{noSpan, spanFrom, networkSpan, networkPart, NetworkLiesInside}
 use Rattle.eb_read_spec.specs.declared.Span.{Span}
@@ -51,7 +52,7 @@ module _ (s : List ℕ) (w : Walk) (e : w ≡ acceptedWalk s) where
 
   module _ (some : w .joining ≡ 0 → ⊥) where
     accepted : examined s .number ≡ 0
-    unfolding acceptedWalk blankWalk walkStart
+    unfolding acceptedWalk blankWalk
     accepted = each-eq (λ (x : Walk). (x .joining ≡ 0 → ⊥) → examined s .number ≡ 0) _ _ _ _ (λ good there. good) (λ bad there. absurd (there refl)) (rw e at some)
 
     pub network-there : (skip : ℕ) (r : Span) → skip ≡ networkOffset s (w .joining) → r ≡ spanFrom (w .joining + skip) (w .joiningend) → r ≡ networkSpan s

@@ -20,11 +20,12 @@ use Rattle.ie_step_spec.specs.declared.OuterStep.{OuterStep}
 use Rattle.ie_step_spec.specs.declared.OuterStep.the-variants as outer
 use Rattle.ie_step_spec.specs.declared.InnerStep.{InnerStep}
 use Rattle.ie_step_spec.specs.declared.InnerStep.the-variants as inner
-use Rattle.ie_walk_spec.specs.Walk.{seenOf, skipOne, taken, stopped, partTaken, outerGo, groupGo, payloadList}
+use Rattle.ie_walk_spec.specs.Walk.{blankWalk, seenOf, skipOne, taken, stopped, partTaken, outerGo, groupGo, payloadList}
 use Rattle.ie_walk_spec.specs.declared.Walk.{Walk}
 use Rattle.ie_walk_spec.specs.declared.HeaderListEnd.{HeaderListEnd}
+use Rattle.mac_header_spec.specs.Fields.{offsetsOf, macHeaderOf}
 use Rattle.eb_read_spec.specs.declared.Examination.{Examination}
-use Rattle.eb_read_spec.specs.Read.{walkStart, blankWalk, elementsWalk, elementsOffset, examined}
+use Rattle.eb_read_spec.specs.Read.{walkStart, skippedBefore, behindHeader, elementsWalk, examined}
 use Rattle.eb_read_spec.proofs.Each.{each-eq, each-eq-2}
 use Rattle.eb_read_spec.proofs.Within.{outer-within, inner-within}
 
@@ -154,9 +155,9 @@ module _ (s : List ℕ) (from to : ℕ) (seen : Seen) where
 -- ---- the walk
 module _ (s : List ℕ) (end : ℕ) where
   -- no element is noted where the walk begins
-  pub start-noted : (head : HeaderListEnd) → Noted s end (walkStart head)
-  unfolding walkStart
-  start-noted head = record {
+  blank-noted : Noted s end blankWalk
+  unfolding blankWalk
+  blank-noted = record {
     slotframe = λ some. absurd (some refl);
     timeslot = λ some. absurd (some refl);
     joining = λ some. absurd (some refl);
@@ -210,6 +211,10 @@ module _ (s : List ℕ) (end : ℕ) where
       unfolding partTaken
       part-noted at = each-eq (λ (t : Walk). Noted s end t) _ _ _ _ (λ e. taken-noted e) (λ bad. stop-noted _ at)
 
+pub start-noted : (s : List ℕ) (end : ℕ) (head : HeaderListEnd) → Noted s end (walkStart head)
+unfolding walkStart blankWalk
+start-noted s end head = noted-besides s end blankWalk (blank-noted s end) _ _ _
+
 -- what the lists keep at a bound: a group ends before the end of its list
 abbrev Outers : ℕ → Type 0
 Outers bound = (s : List ℕ) (at end : ℕ) (w : Walk) → Noted s end w → Noted s end (outerGo bound s at end w)
@@ -246,12 +251,12 @@ lists-noted (suc bound) =
     (λ s at end w h. outer-step bound outers groups s at end w h (outerAt s at end) refl (outer-within s at end), λ s at to end w b h. group-step bound outers groups s at to end w b h (innerAt s at to) refl (inner-within s at to))
 
 pub elements-noted : (s : List ℕ) (at end : ℕ) → Noted s end (elementsWalk s at end)
-unfolding elementsWalk payloadList
+unfolding elementsWalk behindHeader payloadList skippedBefore
 elements-noted s at end =
     let P : Walk → Type 0 = λ w. Noted s end w in
-    either-eq P _ _ (either-eq P _ _ (start-noted s end _) (lists-noted _ .0 s _ end _ (start-noted s end _)) _ _) (start-noted s end _) _ _
+    either-eq P _ _ (either-eq P _ _ (start-noted s end _) (noted-besides s end _ (lists-noted _ .0 s _ end _ (blank-noted s end)) _ _ _) _ _) (start-noted s end _) _ _
 
 pub examined-noted : (s : List ℕ) → Noted s (length s) (examined s .walk)
-unfolding examined blankWalk
+unfolding examined macHeaderOf offsetsOf
 examined-noted s =
-    either-eq (λ (x : Examination). Noted s (length s) (x .walk)) _ _ (elements-noted s (elementsOffset s) (length s)) (start-noted s (length s) _) _ _
+    either-eq (λ (x : Examination). Noted s (length s) (x .walk)) _ _ (elements-noted s (macHeaderOf s .elements) (length s)) (blank-noted s (length s)) _ _

@@ -6,7 +6,6 @@ use mathlib.Core.List.{List}
 use lib.Dec.{T, T-not, leb, eqb, leb→le}
 use lib.ListN.{length}
 use Rattle.octets_spec.proofs.ChoiceLaws.{if-ge, either-on, either-lt, either-eq}
-use Rattle.mac_header_spec.specs.Control.{formFault, macHeaderFault}
 use Rattle.mac_header_spec.specs.declared.Control.{Control}
 use Rattle.ie_verdict_spec.specs.Verdict.{onceOnly, syncFault, timeslotFault, hoppingFault, slotframeShape, slotframeLimits, slotframeFault, joiningFault, slotframeFaultAt, partFault}
 use Rattle.ie_verdict_spec.specs.declared.Seen.{Seen}
@@ -18,10 +17,13 @@ use Rattle.ie_step_spec.specs.declared.OuterStep.{OuterStep}
 use Rattle.ie_step_spec.specs.declared.OuterStep.the-variants as outer
 use Rattle.ie_step_spec.specs.declared.InnerStep.{InnerStep}
 use Rattle.ie_step_spec.specs.declared.InnerStep.the-variants as inner
-use Rattle.ie_walk_spec.specs.Walk.{seenOf, skipOne, taken, stopped, partTaken, headerGo, headerList, outerGo, groupGo, payloadList}
+use Rattle.ie_walk_spec.specs.Walk.{blankWalk, inFront, skippedOver, seenOf, skipOne, taken, stopped, partTaken, headerGo, headerList, outerGo, groupGo, payloadList}
 use Rattle.ie_walk_spec.specs.declared.Walk.{Walk}
+use Rattle.mac_header_spec.specs.declared.MacHeader.{MacHeader}
+use Rattle.mac_header_spec.specs.Fields.{macHeaderOf}
+use Rattle.eb_read_spec.specs.Policy.{formFault, policyFault, macHeaderFault}
 use Rattle.eb_read_spec.specs.declared.Examination.{Examination}
-use Rattle.eb_read_spec.specs.Read.{walkStart, elementsWalk, missing, walkNumber, elementsOffset, examined}
+use Rattle.eb_read_spec.specs.Read.{walkStart, skippedBefore, behindHeader, elementsWalk, missing, walkNumber, examined}
 
 -- a number from 0 to 8 but 1, as a test that computes at a literal
 abbrev Small : ℕ → Type 0
@@ -55,7 +57,7 @@ form-small c =
     either-eq Small _ _ (either-eq Small _ _ (either-eq Small _ _ (either-eq Small _ _ (either-lt Small _ _ tt (either-eq Small _ _ (either-eq Small _ _ tt tt _ _) tt _ _) _ _) tt _ _) tt _ _) tt _ _) tt _ _
 
 pub mac-header-small : (s : List ℕ) → length s ≤ 125 → Small (macHeaderFault s)
-unfolding macHeaderFault
+unfolding macHeaderFault policyFault
 mac-header-small s short = subst Small (if-ge _ _ 125 (length s) short refl) (either-lt Small _ _ tt (either-eq Small _ _ (either-lt Small _ _ tt (either-eq Small _ _ tt tt _ _) _ _) (form-small _) _ _) _ _)
 
 -- ---- the elements
@@ -131,17 +133,17 @@ inner-small s at end =
     either-lt P _ _ (either-lt P _ _ tt (either-eq P _ _ (either-lt P _ _ tt tt _ _) (either-lt P _ _ tt tt _ _) _ _) _ _) tt _ _
 
 -- ---- the lists: one step, given the rest of the list
-header-step : (bound : ℕ) (s : List ℕ) (at end n : ℕ) → ((to m : ℕ) → Late (headerGo bound s to end m .fault)) → (o : HeaderStep) → headerAt s at end ≡ o → HeaderSmall o → Late (headerGo (suc bound) s at end n .fault)
-unfolding headerGo
-header-step bound s at end n rest header.End e f = rw (e, headerGo) tt
-header-step bound s at end n rest (header.Payload from) e f = rw (e, headerGo) tt
-header-step bound s at end n rest (header.Element id from to) e f = rw (e, headerGo) (rest to _)
-header-step bound s at end n rest (header.Fault number) e f = rw (e, headerGo) f
+header-step : (bound : ℕ) (s : List ℕ) (at end : ℕ) → ((to : ℕ) → Late (headerGo bound s to end .fault)) → (o : HeaderStep) → headerAt s at end ≡ o → HeaderSmall o → Late (headerGo (suc bound) s at end .fault)
+unfolding headerGo inFront
+header-step bound s at end rest header.End e f = rw (e, headerGo) tt
+header-step bound s at end rest (header.Payload from) e f = rw (e, headerGo) tt
+header-step bound s at end rest (header.Element id from to) e f = rw (e, headerGo) (rest to)
+header-step bound s at end rest (header.Fault number) e f = rw (e, headerGo) f
 
-header-go : (bound : ℕ) (s : List ℕ) (at end n : ℕ) → Late (headerGo bound s at end n .fault)
+header-go : (bound : ℕ) (s : List ℕ) (at end : ℕ) → Late (headerGo bound s at end .fault)
 unfolding headerGo
-header-go zero s at end n = tt
-header-go (suc bound) s at end n = header-step bound s at end n (λ to m. header-go bound s to end m) (headerAt s at end) refl (header-small s at end)
+header-go zero s at end = tt
+header-go (suc bound) s at end = header-step bound s at end (λ to. header-go bound s to end) (headerAt s at end) refl (header-small s at end)
 
 abbrev WalkSmall : Walk → Type 0
 WalkSmall w = Late (w .fault)
@@ -182,10 +184,10 @@ both (suc bound) =
     (λ s at end w h. outer-step bound outers groups s at end w h (outerAt s at end) refl (outer-small s at end), λ s at to end w h. group-step bound outers groups s at to end w h (innerAt s at to) refl (inner-small s at to))
 
 pub elements-small : (s : List ℕ) (at end : ℕ) → WalkSmall (elementsWalk s at end)
-unfolding elementsWalk walkStart headerList payloadList
+unfolding elementsWalk behindHeader walkStart skippedBefore skippedOver headerList payloadList blankWalk
 elements-small s at end =
-    let h : Late (headerGo (suc end) s at end 0 .fault) = header-go (suc end) s at end 0 in
-    either-eq WalkSmall _ _ (either-eq WalkSmall _ _ h (both _ .0 s _ end _ h) _ _) h _ _
+    let h : Late (headerGo (suc end) s at end .fault) = header-go (suc end) s at end in
+    either-eq WalkSmall _ _ (either-eq WalkSmall _ _ h (both _ .0 s _ end blankWalk tt) _ _) h _ _
 
 missing-small : (w : Walk) → Late (missing w)
 unfolding missing
@@ -197,4 +199,4 @@ number-small w h = either-eq Late _ _ (missing-small w) h _ _
 
 pub examined-small : (s : List ℕ) → length s ≤ 125 → Small (examined s .number)
 unfolding examined
-examined-small s short = either-eq (λ (x : Examination). Small (x .number)) _ _ (late-small (walkNumber (elementsWalk s (elementsOffset s) (length s))) (number-small _ (elements-small s (elementsOffset s) (length s)))) (mac-header-small s short) _ _
+examined-small s short = either-eq (λ (x : Examination). Small (x .number)) _ _ (late-small (walkNumber (elementsWalk s (macHeaderOf s .elements) (macHeaderOf s .end))) (number-small _ (elements-small s (macHeaderOf s .elements) (macHeaderOf s .end)))) (mac-header-small s short) _ _

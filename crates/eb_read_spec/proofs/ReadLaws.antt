@@ -1,5 +1,5 @@
 -- The laws of reading, in the shape in which the code meets them. Assumes nothing.
-use Prim.Native.Nat.{ℕ, _≤_}
+use Prim.Native.Nat.{ℕ, _+_, _≤_}
 use mathlib.Core.Path.{_≡_, refl}
 use mathlib.Core.Bool.{Bool, true, false, cond, _||_}
 use mathlib.Core.List.{List}
@@ -10,50 +10,66 @@ use Rattle.octets_spec.specs.Number.{leAt}
 use Rattle.octets_spec.proofs.ChoiceLaws.{if-eq, if-ne, choices}
 use Rattle.eb_record_spec.specs.Record.{blankBeacon}
 use Rattle.eb_record_spec.specs.declared.Beacon.{Beacon}
-use Rattle.mac_header_spec.specs.Control.{controlOf, offsetsOf, macHeaderFault}
+use Rattle.mac_header_spec.specs.Control.{controlOf}
+use Rattle.mac_header_spec.specs.Fields.{offsetsOf, macHeaderOf}
 use Rattle.mac_header_spec.specs.declared.Control.{Control}
 use Rattle.mac_header_spec.specs.declared.FieldOffsets.{FieldOffsets}
-use Rattle.ie_walk_spec.specs.Walk.{headerList, payloadList}
+use Rattle.ie_walk_spec.specs.Walk.{blankWalk, headerList, skippedOver, payloadList}
 use Rattle.ie_walk_spec.specs.declared.Walk.{Walk}
 use Rattle.ie_walk_spec.specs.declared.HeaderListEnd.{HeaderListEnd}
+use Rattle.eb_read_spec.specs.Policy.{macHeaderFault}
 use Rattle.eb_read_spec.specs.Decode.{decoded}
-use Rattle.eb_read_spec.specs.Read.{walkStart, blankWalk, elementsWalk, missing, walkNumber, elementsOffset, examined, acceptedWalk, readFrame}
+use Rattle.eb_read_spec.specs.Read.{walkStart, skippedBefore, behindHeader, elementsWalk, missing, walkNumber, examined, acceptedWalk, readFrame}
 use Rattle.eb_read_spec.specs.declared.Examination.{Examination}
+use Rattle.eb_read_spec.proofs.Skipped.{head-counts, counts-fit}
 use Rattle.eb_read_spec.proofs.Numbers.{at-most-8, elements-small, late-small}
 
 pub heads : (head : HeaderListEnd) → record { fault = head .fault; faulty = head .faulty; skipped = head .skipped; synchronization = 0; timeslot = 0; timeslotend = 0; hopping = 0; slotframe = 0; joining = 0; joiningend = 0 } ≡ walkStart head
 unfolding walkStart
 heads head = refl
 
-pub blanks : record { fault = 0; faulty = 0; skipped = 0; synchronization = 0; timeslot = 0; timeslotend = 0; hopping = 0; slotframe = 0; joining = 0; joiningend = 0 } ≡ blankWalk
-unfolding blankWalk walkStart
-blanks = refl
+pub behinds : (count : ℕ) (w : Walk)
+    → record { fault = w .fault; faulty = w .faulty; skipped = count + w .skipped; synchronization = w .synchronization; timeslot = w .timeslot; timeslotend = w .timeslotend; hopping = w .hopping; slotframe = w .slotframe; joining = w .joining; joiningend = w .joiningend } ≡ skippedBefore count w
+unfolding skippedBefore
+behinds count w = refl
 
 -- ---- the elements
-module _ (s : List ℕ) (at end : ℕ) (head : HeaderListEnd) (start : Walk) (h : head ≡ headerList s at end) (b : start ≡ walkStart head) where
-  pub header-faulty : (head .fault ≡ 0 → ⊥) → start ≡ elementsWalk s at end
-  unfolding elementsWalk
-  header-faulty bad = rw (← h) (if-ne _ _ _ _ bad b)
+module _ (s : List ℕ) (end : ℕ) (head : HeaderListEnd) where
+  pub header-faulty : (start : Walk) → start ≡ walkStart head → (head .fault ≡ 0 → ⊥) → start ≡ behindHeader s head end
+  unfolding behindHeader
+  header-faulty start b bad = if-ne _ _ _ _ bad b
 
   module _ (good : head .fault ≡ 0) where
-    pub header-only : head .payload ≡ 0 → start ≡ elementsWalk s at end
-    unfolding elementsWalk
-    header-only none = rw (← h) (if-eq _ _ _ _ good (if-eq _ _ _ _ none b))
+    pub header-only : (start : Walk) → start ≡ walkStart head → head .payload ≡ 0 → start ≡ behindHeader s head end
+    unfolding behindHeader
+    header-only start b none = if-eq _ _ _ _ good (if-eq _ _ _ _ none b)
 
-    pub header-and-payload : (r : Walk) → (head .payload ≡ 0 → ⊥) → r ≡ payloadList s (head .payload) end start → r ≡ elementsWalk s at end
-    unfolding elementsWalk
-    header-and-payload r some e = rw (← h) (if-eq _ _ _ _ good (if-ne _ _ _ _ some (rw b at e)))
+    pub header-and-payload : (w r : Walk) → (head .payload ≡ 0 → ⊥) → w ≡ payloadList s (head .payload) end → r ≡ skippedBefore (head .skipped) w → r ≡ behindHeader s head end
+    unfolding behindHeader
+    header-and-payload w r some e f = if-eq _ _ _ _ good (if-ne _ _ _ _ some (rw e at f))
 
-module _ (s : List ℕ) (word : ℕ) (control : Control) (offsets : FieldOffsets) (e : word ≡ leAt 2 s 0) (f : control ≡ controlOf word) (g : offsets ≡ offsetsOf control) where
-  pub offsets-at : offsets .elements ≡ elementsOffset s
-  unfolding elementsOffset
-  offsets-at = rw (g, f, e)
+pub elements-are : (s : List ℕ) (at end : ℕ) (head : HeaderListEnd) (w : Walk) → head ≡ skippedOver (headerList s at end) → w ≡ behindHeader s head end → w ≡ elementsWalk s at end
+unfolding elementsWalk
+elements-are s at end head w e f = rw (← e) f
 
-  pub header-list-at : (end : ℕ) (head : HeaderListEnd) → head ≡ headerList s (offsets .elements) end → head ≡ headerList s (elementsOffset s) end
-  header-list-at end head h = rw offsets-at at h
+-- where the elements are, as the code finds it
+module _ (s : List ℕ) (word : ℕ) (control : Control) (found : FieldOffsets) (e : word ≡ leAt 2 s 0) (f : control ≡ controlOf word) (g : found ≡ offsetsOf control (length s)) where
+  pub starts-are : found .elements ≡ macHeaderOf s .elements
+  unfolding macHeaderOf
+  starts-are = rw (g, f, e)
 
-pub walk-small : (s : List ℕ) (at end : ℕ) (w : Walk) → w ≡ elementsWalk s at end → w .fault ≤ 8
-walk-small s at end w e = rw e (at-most-8 _ (late-small (elementsWalk s at end .fault) (elements-small s at end)))
+  pub ends-are : found .end ≡ macHeaderOf s .end
+  unfolding macHeaderOf
+  ends-are = rw (g, f, e)
+
+pub behind-at : (s : List ℕ) (end : ℕ) (head : HeaderListEnd) (r : Walk) → end ≡ macHeaderOf s .end → r ≡ behindHeader s head end → r ≡ behindHeader s head (macHeaderOf s .end)
+behind-at s end head r e f = rw e at f
+
+pub list-at : (s : List ℕ) (at end : ℕ) (head : HeaderListEnd) → at ≡ macHeaderOf s .elements → end ≡ macHeaderOf s .end → head ≡ skippedOver (headerList s at end) → head ≡ skippedOver (headerList s (macHeaderOf s .elements) (macHeaderOf s .end))
+list-at s at end head e f g = rw (e, f) at g
+
+pub walk-small : (s : List ℕ) (at end : ℕ) (head : HeaderListEnd) (w : Walk) → head ≡ skippedOver (headerList s at end) → w ≡ behindHeader s head end → w .fault ≤ 8
+walk-small s at end head w h e = rw (elements-are s at end head w h e) (at-most-8 _ (late-small (elementsWalk s at end .fault) (elements-small s at end)))
 
 -- ---- the number and the record
 -- four tests in a row with one answer are one test
@@ -87,23 +103,23 @@ module _ (s : List ℕ) (fault : ℕ) (f : fault ≡ macHeaderFault s) where
   unfolding examined
   examined-mac-header w bad e = rw (← f) (if-ne _ _ fault 0 bad (rw e))
 
-  pub examined-walk : (w : Walk) (at n : ℕ) → fault ≡ 0 → at ≡ elementsOffset s → w ≡ elementsWalk s at (length s) → n ≡ walkNumber w → record { number = n; walk = w } ≡ examined s
+  pub examined-walk : (w : Walk) (n : ℕ) → fault ≡ 0 → w ≡ elementsWalk s (macHeaderOf s .elements) (macHeaderOf s .end) → n ≡ walkNumber w → record { number = n; walk = w } ≡ examined s
   unfolding examined
-  examined-walk w at n good p e g = rw (← f) (if-eq _ _ fault 0 good (rw (g, e, p)))
+  examined-walk w n good e k = rw (← f) (if-eq _ _ fault 0 good (rw (k, e)))
 
   -- the walk of an accepted frame
   pub unexamined : (w : Walk) → (fault ≡ 0 → ⊥) → w ≡ blankWalk → w ≡ acceptedWalk s
   unfolding acceptedWalk
   unexamined w bad e = rw (← examined-mac-header w bad e) (if-ne _ _ fault 0 bad e)
 
-  module _ (w : Walk) (n : ℕ) (good : fault ≡ 0) (e : w ≡ elementsWalk s (elementsOffset s) (length s)) (g : n ≡ walkNumber w) where
+  module _ (w : Walk) (n : ℕ) (good : fault ≡ 0) (e : w ≡ elementsWalk s (macHeaderOf s .elements) (macHeaderOf s .end)) (k : n ≡ walkNumber w) where
     pub refused-walk : (b : Walk) → (n ≡ 0 → ⊥) → b ≡ blankWalk → b ≡ acceptedWalk s
     unfolding acceptedWalk
-    refused-walk b bad h = rw (← examined-walk w _ n good refl e g) (if-ne _ _ n 0 bad h)
+    refused-walk b bad h = rw (← examined-walk w n good e k) (if-ne _ _ n 0 bad h)
 
     pub accepted-walk : n ≡ 0 → w ≡ acceptedWalk s
     unfolding acceptedWalk
-    accepted-walk done = rw (← examined-walk w _ n good refl e g) (if-eq _ _ n 0 done refl)
+    accepted-walk done = rw (← examined-walk w n good e k) (if-eq _ _ n 0 done refl)
 
 module _ (s : List ℕ) (x : Examination) (e : x ≡ examined s) where
   pub read-refused : (b : Beacon) → (x .number ≡ 0 → ⊥) → b ≡ blankBeacon → record { number = x .number; beacon = b } ≡ readFrame s
@@ -114,4 +130,4 @@ module _ (s : List ℕ) (x : Examination) (e : x ≡ examined s) where
   unfolding readFrame
   read-done b good f = rw (← e) (if-eq _ _ _ _ good (rw f))
 
-pub ruleset reading = (choices, heads, blanks, header-faulty, header-only, header-and-payload, header-list-at, walk-small, some-missing, none-missing, faulty, faultless, examined-mac-header, examined-walk, unexamined, refused-walk, accepted-walk, read-refused, read-done)
+pub ruleset reading = (choices, counts-fit, heads, behinds, header-faulty, header-only, header-and-payload, head-counts, elements-are, starts-are, ends-are, behind-at, list-at, walk-small, some-missing, none-missing, faulty, faultless, examined-mac-header, examined-walk, unexamined, refused-walk, accepted-walk, read-refused, read-done)

@@ -1,10 +1,12 @@
--- Where a step of the payload list or of a group leads lies behind its descriptor and before the end. Assumes nothing.
+-- Where a step of a list of elements leads lies behind its descriptor and before the end. Assumes nothing.
 use Prim.Native.Nat.{ℕ, _+_, _≤_}
 use mathlib.Core.Path.{_≡_, refl}
 use mathlib.Core.List.{List}
 use native.Mathlib.Omega.{arith}
 use Rattle.octets_spec.proofs.ChoiceLaws.{either-eq}
+use Rattle.ie_step_spec.specs.Header.{headerAt, headerWithin, headerWord}
 use Rattle.ie_step_spec.specs.Payload.{groupOf, outerWord, outerAt, outerWithin, innerWord, innerAt, innerWithin}
+use Rattle.ie_step_spec.specs.declared.HeaderStep.{HeaderStep}
 use Rattle.ie_step_spec.specs.declared.OuterStep.{OuterStep}
 use Rattle.ie_step_spec.specs.declared.InnerStep.{InnerStep}
 use Rattle.eb_read_spec.proofs.Each.{each-lt, each-eq}
@@ -36,4 +38,15 @@ inner-within s at end =
     (λ two. either-eq P _ _
     (each-lt P _ _ _ _ (λ over. tt) (λ fits. (omega arith, omega arith, omega (arith, two, fits))))
     (each-lt P _ _ _ _ (λ over. tt) (λ fits. (omega arith, omega arith, omega (arith, two, fits)))) _ _))
+    (λ none. tt)
+
+pub header-within : (s : List ℕ) (at end : ℕ) → headerWithin (headerAt s at end) at end
+unfolding headerAt headerWord
+header-within s at end =
+    let P : HeaderStep → Type 0 = λ o. headerWithin o at end in
+    each-lt P _ _ _ _
+    (λ more. each-lt P _ _ _ _ (λ one. tt)
+    (λ two. each-lt P _ _ _ _ (λ over. tt)
+    (λ fits. either-eq P _ _ tt
+    (either-eq P _ _ (either-eq P _ _ (omega arith, omega (arith, two)) tt _ _) (either-eq P _ _ (either-eq P _ _ tt tt _ _) (omega arith, omega arith, omega (arith, two, fits)) _ _) _ _) _ _)))
     (λ none. tt)

@@ -9,20 +9,22 @@ use lib.ListN.{replicate}
 use Rattle.octets_spec.specs.Choice.{ifOn, ifLt, ifEq}
 use Rattle.octets_spec.specs.Counted.{counted, padded}
 use Rattle.octets_spec.specs.Number.{leAt, beAt}
-use Rattle.mac_header_spec.specs.Control.{controlOf, formFault, addressLength, offsetsOf, macHeaderFault}
+use Rattle.mac_header_spec.specs.Control.{controlOf}
+use Rattle.mac_header_spec.specs.Fields.{addressLength, offsetsOf, macHeaderOf, sequenceOf, addressOf}
 use Rattle.ie_step_spec.specs.Header.{headerWord, headerAt}
 use Rattle.ie_step_spec.specs.Payload.{groupOf, outerWord, outerAt, innerWord, innerAt}
 use Rattle.ie_verdict_spec.specs.Verdict.{onceOnly, syncFault, timeslotFault, hoppingFault, slotframeShape, slotframeLimits, slotframeFault, joiningFault, timeslotsFit, slotframeFaultAt, partFault}
-use Rattle.ie_walk_spec.specs.Walk.{bump, seenOf, skipOne, taken, stopped, partTaken, headerGo, headerList, outerGo, groupGo, payloadList}
-use Rattle.eb_read_spec.specs.Decode.{sequenceOf, sourceOf, synchronizationAt, timingAt, templateAt, linkAt, slotframeAt, networkOffset, joiningAt, macHeaderOf, decoded}
-use Rattle.eb_read_spec.specs.Read.{walkStart, blankWalk, elementsWalk, missing, walkNumber, elementsOffset, examined, readFrame}
+use Rattle.ie_walk_spec.specs.Walk.{blankWalk, inFront, skippedOver, seenOf, skipOne, taken, stopped, partTaken, headerGo, headerList, outerGo, groupGo, payloadList}
+use Rattle.eb_read_spec.specs.Policy.{formFault, policyFault, macHeaderFault}
+use Rattle.eb_read_spec.specs.Decode.{synchronizationAt, timingAt, templateAt, linkAt, slotframeAt, networkOffset, joiningAt, decoded}
+use Rattle.eb_read_spec.specs.Read.{walkStart, skippedBefore, behindHeader, elementsWalk, missing, walkNumber, examined, readFrame}
 use Rattle.eb_read_spec.specs.Claims.{Bytes}
 use Rattle.eb_read_spec.specs.Witnesses.{shortest, ShortestIsRead, SomeFrameIsAccepted, SomeFrameHasJoiningInformation, EachNumberIsGiven}
 use Rattle.eb_read_spec.proofs.Claimed.{number-of}
 use Rattle.eb_read_spec.proofs.Numbers.{both-left, both-right}
 
 both-read : ShortestIsRead × SomeFrameHasJoiningInformation
-unfolding ifOn ifLt ifEq counted padded leAt beAt controlOf formFault addressLength offsetsOf macHeaderFault headerWord headerAt groupOf outerWord outerAt innerWord innerAt onceOnly syncFault timeslotFault hoppingFault slotframeShape slotframeLimits slotframeFault joiningFault timeslotsFit slotframeFaultAt partFault bump seenOf skipOne taken stopped partTaken headerGo headerList outerGo groupGo payloadList sequenceOf sourceOf synchronizationAt timingAt templateAt linkAt slotframeAt networkOffset joiningAt macHeaderOf decoded walkStart blankWalk elementsWalk missing walkNumber elementsOffset examined readFrame
+unfolding ifOn ifLt ifEq counted padded leAt beAt controlOf formFault addressLength offsetsOf macHeaderOf policyFault macHeaderFault headerWord headerAt groupOf outerWord outerAt innerWord innerAt onceOnly syncFault timeslotFault hoppingFault slotframeShape slotframeLimits slotframeFault joiningFault timeslotsFit slotframeFaultAt partFault inFront skippedOver seenOf skipOne taken stopped partTaken headerGo headerList outerGo groupGo payloadList sequenceOf addressOf synchronizationAt timingAt templateAt linkAt slotframeAt networkOffset joiningAt decoded walkStart blankWalk skippedBefore behindHeader elementsWalk missing walkNumber examined readFrame
 both-read = ((refl, refl, refl), (refl, refl, refl))
 
 pub shortest-is-read : ShortestIsRead
@@ -56,7 +58,7 @@ abbrev fields : List ℕ → List ℕ
 fields rest = 64 ∷ 171 ∷ 52 ∷ 18 ∷ 255 ∷ 255 ∷ 7 ∷ 0 ∷ rest
 
 pub each-number-is-given : EachNumberIsGiven
-unfolding ifOn ifLt ifEq leAt controlOf formFault addressLength offsetsOf macHeaderFault headerWord headerAt groupOf outerWord outerAt innerWord innerAt hoppingFault partFault bump seenOf skipOne taken stopped partTaken headerGo headerList outerGo groupGo payloadList walkStart blankWalk elementsWalk missing walkNumber elementsOffset examined readFrame
+unfolding ifOn ifLt ifEq leAt controlOf formFault addressLength offsetsOf macHeaderOf policyFault macHeaderFault headerWord headerAt groupOf outerWord outerAt innerWord innerAt hoppingFault partFault inFront skippedOver seenOf skipOne taken stopped partTaken headerGo headerList outerGo groupGo payloadList walkStart blankWalk skippedBefore behindHeader elementsWalk missing walkNumber examined readFrame
 each-number-is-given zero h = (shortest, shortest-done)
 each-number-is-given (suc zero) h = (replicate 126 0, refl)
 each-number-is-given (suc (suc zero)) h = ([], refl)

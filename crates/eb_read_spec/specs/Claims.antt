@@ -4,13 +4,14 @@ use mathlib.Core.Path.{_≡_}
 use mathlib.Core.List.{List}
 use mathlib.Core.Logic.{_⊎_}
 use lib.ListN.{length, getD}
-use Rattle.octets_spec.specs.Number.{leAt}
 use Rattle.refusal.specs.Refusal.{addressing, done, frameTooLong, secured, wrongType}
-use Rattle.mac_header_spec.specs.Control.{beaconType, broadcast, controlOf, offsetsOf, shortMode, version2015}
+use Rattle.mac_header_spec.specs.Control.{shortMode, version2015}
+use Rattle.mac_header_spec.specs.Fields.{macHeaderOf}
 use Rattle.ie_walk_spec.specs.Walk.{headerGo, outerGo}
 use Rattle.ie_walk_spec.specs.declared.Walk.{Walk}
 use Rattle.eb_record_spec.specs.Record.{blankLink}
-use Rattle.eb_read_spec.specs.Read.{readFrame}
+use Rattle.eb_read_spec.specs.Policy.{beaconType, broadcast}
+use Rattle.eb_read_spec.specs.Read.{examined, readFrame}
 
 -- the number is one of 0 to 8
 abbrev pub NumbersTo8 : Type 0
@@ -26,19 +27,17 @@ HasControl s = (length s ≤ 125) × (2 ≤ length s)
 
 -- it says that this is a beacon of the version of 2015
 abbrev pub IsBeacon : List ℕ → Type 0
-IsBeacon s = (controlOf (leAt 2 s 0) .kind ≡ beaconType) × (controlOf (leAt 2 s 0) .version ≡ version2015)
+IsBeacon s = (macHeaderOf s .control .kind ≡ beaconType) × (macHeaderOf s .control .version ≡ version2015)
 
 -- it has the accepted addressing: destination short, source there, compression 1, elements present 1
 abbrev pub IsAddressed : List ℕ → Type 0
 IsAddressed s =
-    let control = controlOf (leAt 2 s 0) in
+    let control = macHeaderOf s .control in
     (control .destination ≡ shortMode) × (shortMode ≤ control .source) × (control .compression ≡ 1) × (control .elements ≡ 1)
 
 -- the destination is there, and is not broadcast
 abbrev pub AnotherDestination : List ℕ → Type 0
-AnotherDestination s =
-    let offsets = offsetsOf (controlOf (leAt 2 s 0)) in
-    (offsets .elements ≤ length s) × (leAt 2 s (offsets .destination) ≡ broadcast → ⊥)
+AnotherDestination s = (macHeaderOf s .elements ≤ macHeaderOf s .end) × (macHeaderOf s .destination ≡ broadcast → ⊥)
 
 -- the number is 3 exactly when frame control can be read, and says that this is no beacon of the version of 2015
 abbrev pub ThreeIsTheType : Type 0
@@ -48,14 +47,14 @@ ThreeIsTheType = (s : List ℕ) → (readFrame s .number ≡ wrongType → HasCo
 abbrev pub FourIsSecurity : Type 0
 FourIsSecurity =
     (s : List ℕ) →
-    let condition : Type 0 = HasControl s × IsBeacon s × (controlOf (leAt 2 s 0) .security ≡ 0 → ⊥) in
+    let condition : Type 0 = HasControl s × IsBeacon s × (macHeaderOf s .control .security ≡ 0 → ⊥) in
     (readFrame s .number ≡ secured → condition) × (condition → readFrame s .number ≡ secured)
 
 -- 5 exactly when it is such a beacon, not secured, and has another addressing or another destination
 abbrev pub FiveIsTheAddressing : Type 0
 FiveIsTheAddressing =
     (s : List ℕ) →
-    let condition : Type 0 = HasControl s × IsBeacon s × (controlOf (leAt 2 s 0) .security ≡ 0) × ((IsAddressed s → ⊥) ⊎ (IsAddressed s × AnotherDestination s)) in
+    let condition : Type 0 = HasControl s × IsBeacon s × (macHeaderOf s .control .security ≡ 0) × ((IsAddressed s → ⊥) ⊎ (IsAddressed s × AnotherDestination s)) in
     (readFrame s .number ≡ addressing → condition) × (condition → readFrame s .number ≡ addressing)
 
 -- every entry of a list is a byte
@@ -77,5 +76,9 @@ AcceptedMayBeDecidedOn =
 abbrev pub BoundsDoNotMatter : Type 0
 BoundsDoNotMatter =
     (s : List ℕ) (at end one other : ℕ) →
-    ((skipped : ℕ) → end - at < one → end - at < other → headerGo one s at end skipped ≡ headerGo other s at end skipped)
+    (end - at < one → end - at < other → headerGo one s at end ≡ headerGo other s at end)
     × ((walk : Walk) → 2 * (end - at) < one → 2 * (end - at) < other → outerGo one s at end walk ≡ outerGo other s at end walk)
+
+-- no more elements are skipped than the frame has bytes
+abbrev pub SkippedFitTheFrame : Type 0
+SkippedFitTheFrame = (s : List ℕ) → examined s .walk .skipped ≤ length s

@@ -1,5 +1,5 @@
--- The record of an accepted frame: each field from its bytes, in the order on air (docs/RULES.md, The frame and Elements). Assumes
--- nothing.
+-- The record of an accepted frame: the fields of its MAC header, and those of each element from its bytes, in the order on air
+-- (docs/RULES.md, The frame and Elements). Assumes nothing.
 use Prim.Native.Nat.{ℕ, _+_, _-_, _*_, _/_, _%_, _^_, min}
 use mathlib.Core.Bool.{false, true}
 use mathlib.Core.List.{List}
@@ -8,28 +8,15 @@ use lib.ListN.{getD, replicate}
 use Rattle.octets_spec.specs.Choice.{ifLt, ifEq}
 use Rattle.octets_spec.specs.Number.{leAt, beAt}
 use Rattle.octets_spec.specs.Counted.{counted, padded}
-use Rattle.mac_header_spec.specs.Control.{extendedMode, controlOf, offsetsOf}
+use Rattle.mac_header_spec.specs.Fields.{macHeaderOf, sequenceOf, addressOf}
 use Rattle.ie_walk_spec.specs.declared.Walk.{Walk}
-use Rattle.eb_read_spec.specs.declared.MacHeader.{MacHeader}
 use Rattle.eb_record_spec.specs.Record.{blankLink, blankJoining}
-use Rattle.eb_record_spec.specs.declared.SequenceNumber.{SequenceNumber}
-use Rattle.eb_record_spec.specs.declared.SequenceNumber.the-variants.{Absent, Number}
-use Rattle.eb_record_spec.specs.declared.Address.{Address}
-use Rattle.eb_record_spec.specs.declared.Address.the-variants.{Short, Extended}
 use Rattle.eb_record_spec.specs.declared.Synchronization.{Synchronization}
 use Rattle.eb_record_spec.specs.declared.TimeslotTemplate.{TimeslotTemplate}
 use Rattle.eb_record_spec.specs.declared.Link.{Link}
 use Rattle.eb_record_spec.specs.declared.Slotframe.{Slotframe}
 use Rattle.eb_record_spec.specs.declared.JoiningInformation.{JoiningInformation}
 use Rattle.eb_record_spec.specs.declared.Beacon.{Beacon}
-
--- the sequence number, behind frame control, unless it is suppressed
-unfoldable pub sequenceOf : List ℕ → ℕ → SequenceNumber
-sequenceOf s suppressed = ifEq suppressed 0 (Number (getD s 2 0)) Absent
-
--- the source: extended (8 bytes) or short (2 bytes)
-unfoldable pub sourceOf : List ℕ → ℕ → ℕ → Address
-sourceOf s mode at = ifEq mode extendedMode (Extended (leAt 8 s at)) (Short (leAt 2 s at))
 
 -- synchronization: ASN (5 bytes), join metric
 unfoldable pub synchronizationAt : List ℕ → ℕ → Synchronization
@@ -78,19 +65,12 @@ joiningAt s at to =
       network = padded (λ i. getD s (at + (before + i)) 0) 0 16 size;
     })
 
--- sequence number, destination PAN and source, which stand before the elements
-unfoldable pub macHeaderOf : List ℕ → MacHeader
-macHeaderOf s =
-    let control = controlOf (leAt 2 s 0) in
-    let offsets = offsetsOf control in
-    record { sequence = sequenceOf s (control .suppressed); pan = leAt 2 s (offsets .pan); source = sourceOf s (control .source) (offsets .source) }
-
--- the record: what stands before the elements, and each element where the walk noted it
+-- the record: sequence number, PAN and source of the MAC header, and each element where the walk noted it
 unfoldable pub decoded : List ℕ → Walk → Beacon
 decoded s walk = record {
-  sequence = macHeaderOf s .sequence;
+  sequence = sequenceOf (macHeaderOf s);
   pan = macHeaderOf s .pan;
-  source = macHeaderOf s .source;
+  source = addressOf (macHeaderOf s .control .source) (macHeaderOf s .source);
   synchronization = synchronizationAt s (walk .synchronization);
   timeslot = templateAt s (walk .timeslot) (walk .timeslotend - walk .timeslot);
   hopping = getD s (walk .hopping) 0;

@@ -1,3 +1,4 @@
+pub mod Policy
 pub mod Decode
 pub mod Read
 pub mod Form

@@ -1,15 +1,15 @@
 -- Reading: the checks in their order, and the record (docs/RULES.md, The order of checks). Assumes nothing.
-use Prim.Native.Nat.{ℕ}
+use Prim.Native.Nat.{ℕ, _+_, _≤_}
+use mathlib.Core.Path.{_≡_}
 use mathlib.Core.List.{List}
-use lib.ListN.{length}
 use Rattle.octets_spec.specs.Choice.{ifEq, ifNe}
-use Rattle.octets_spec.specs.Number.{leAt}
 use Rattle.refusal.specs.Refusal.{done, missingOrTwice}
 use Rattle.eb_record_spec.specs.Record.{blankBeacon}
-use Rattle.mac_header_spec.specs.Control.{controlOf, offsetsOf, macHeaderFault}
-use Rattle.ie_walk_spec.specs.Walk.{headerList, payloadList}
+use Rattle.mac_header_spec.specs.Fields.{macHeaderOf}
+use Rattle.ie_walk_spec.specs.Walk.{blankWalk, headerList, skippedOver, payloadList}
 use Rattle.ie_walk_spec.specs.declared.Walk.{Walk}
 use Rattle.ie_walk_spec.specs.declared.HeaderListEnd.{HeaderListEnd}
+use Rattle.eb_read_spec.specs.Policy.{macHeaderFault}
 use Rattle.eb_read_spec.specs.Decode.{decoded}
 use Rattle.eb_read_spec.specs.declared.Examination.{Examination}
 use Rattle.eb_read_spec.specs.declared.ReadAnswer.{ReadAnswer}
@@ -29,17 +29,35 @@ walkStart head = record {
   joiningend = 0;
 }
 
--- no walk
-unfoldable pub blankWalk : Walk
-blankWalk = walkStart (record { fault = done; faulty = 0; skipped = 0; payload = 0 })
+-- a walk with the elements counted that were skipped before it
+unfoldable pub skippedBefore : ℕ → Walk → Walk
+skippedBefore count walk = record {
+  fault = walk .fault;
+  faulty = walk .faulty;
+  skipped = count + walk .skipped;
+  synchronization = walk .synchronization;
+  timeslot = walk .timeslot;
+  timeslotend = walk .timeslotend;
+  hopping = walk .hopping;
+  slotframe = walk .slotframe;
+  joining = walk .joining;
+  joiningend = walk .joiningend;
+}
 
--- the elements in byte order: the header list, and the payload list if one follows
-unfoldable pub elementsWalk : List ℕ → ℕ → ℕ → Walk
-elementsWalk s at end =
-    let head = headerList s at end in
+-- behind a header list: the payload list, if one follows
+unfoldable pub behindHeader : List ℕ → HeaderListEnd → ℕ → Walk
+behindHeader s head end =
     ifNe (head .fault) done (walkStart head)
     (ifEq (head .payload) 0 (walkStart head)
-    (payloadList s (head .payload) end (walkStart head)))
+    (skippedBefore (head .skipped) (payloadList s (head .payload) end)))
+
+-- the elements in byte order: the header list, and what follows it
+unfoldable pub elementsWalk : List ℕ → ℕ → ℕ → Walk
+elementsWalk s at end = behindHeader s (skippedOver (headerList s at end)) end
+
+-- no more elements stand in a header list than bytes before the payload list
+abbrev pub CountsBefore : HeaderListEnd → Type 0
+CountsBefore head = (head .payload ≡ 0 → ⊥) → head .skipped ≤ head .payload
 
 -- synchronization, timeslot, hopping and slotframe are required
 unfoldable pub missing : Walk → ℕ
@@ -54,14 +72,11 @@ missing walk =
 unfoldable pub walkNumber : Walk → ℕ
 walkNumber walk = ifNe (walk .fault) done (walk .fault) (missing walk)
 
--- the elements start behind the fixed fields
-unfoldable pub elementsOffset : List ℕ → ℕ
-elementsOffset s = offsetsOf (controlOf (leAt 2 s 0)) .elements
-
 -- the number of a frame, and what the walk over its elements noted
 unfoldable pub examined : List ℕ → Examination
 examined s =
-    let walk = elementsWalk s (elementsOffset s) (length s) in
+    let header = macHeaderOf s in
+    let walk = elementsWalk s (header .elements) (header .end) in
     ifNe (macHeaderFault s) done (record { number = macHeaderFault s; walk = blankWalk })
     (record { number = walkNumber walk; walk = walk })
 

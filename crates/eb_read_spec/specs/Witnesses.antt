@@ -7,8 +7,8 @@ use mathlib.Core.List.{List, [], _∷_, _++_}
 use lib.ListN.{take, replicate}
 use Rattle.refusal.specs.Refusal.{done, cut}
 use Rattle.eb_record_spec.specs.Record.{blankLink, blankJoining, blankBeacon}
-use Rattle.eb_record_spec.specs.declared.SequenceNumber.the-variants.{Absent}
-use Rattle.eb_record_spec.specs.declared.Address.the-variants.{Short}
+use Rattle.mac_header_spec.specs.declared.SequenceNumber.the-variants.{Absent}
+use Rattle.mac_header_spec.specs.declared.Address.the-variants.{Short}
 use Rattle.eb_record_spec.specs.declared.Beacon.{Beacon}
 use Rattle.eb_read_spec.specs.Claims.{Bytes}
 use Rattle.eb_read_spec.specs.Read.{examined, readFrame}

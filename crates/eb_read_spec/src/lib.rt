@@ -1,17 +1,10 @@
 // What reading a frame gives: its number, its record, and where its elements are. Definitions (specs/) of each field from its bytes
-// (Decode), of the checks (Read), of the form without enums (Form) and of the network ID (Network), and theorems about every list of
+// (Decode), of the checks (Policy, Read), of the form without enums (Form) and of the network ID (Network), and theorems about every list of
 // bytes (Claims, Inside, Network).
-ghost use Rattle.eb_read_spec.specs.Claims.{AcceptedMayBeDecidedOn, BoundsDoNotMatter, FiveIsTheAddressing, FourIsSecurity, NumbersTo8, OneIsTheLength, ThreeIsTheType};
+ghost use Rattle.eb_read_spec.specs.Claims.{AcceptedMayBeDecidedOn, BoundsDoNotMatter, FiveIsTheAddressing, FourIsSecurity, NumbersTo8, OneIsTheLength, SkippedFitTheFrame, ThreeIsTheType};
 ghost use Rattle.eb_read_spec.specs.Inside.{AcceptedLiesInside};
 ghost use Rattle.eb_read_spec.specs.Network.{NetworkIsTheRecords, NetworkLiesInside};
 ghost use Rattle.eb_read_spec.specs.Witnesses.{ShortestIsRead, SomeFrameIsAccepted, SomeFrameHasJoiningInformation, EachNumberIsGiven};
-
-// What stands before the elements.
-pub struct MacHeader {
-    pub sequence: eb_record_spec::SequenceNumber,
-    pub pan: u16,
-    pub source: eb_record_spec::Address,
-}
 
 // The number of a frame and what the walk over it noted.
 pub struct Examination {
@@ -47,6 +40,7 @@ pub fn theorems()
     ensures four_is_security { λ _. ⌜ FourIsSecurity ⌝ }
     ensures five_is_the_addressing { λ _. ⌜ FiveIsTheAddressing ⌝ }
     ensures bounds_do_not_matter { λ _. ⌜ BoundsDoNotMatter ⌝ }
+    ensures skipped_fit_the_frame { λ _. ⌜ SkippedFitTheFrame ⌝ }
     ensures accepted_may_be_decided_on { λ _. ⌜ AcceptedMayBeDecidedOn ⌝ }
     ensures accepted_lies_inside { λ _. ⌜ AcceptedLiesInside ⌝ }
     ensures network_lies_inside { λ _. ⌜ NetworkLiesInside ⌝ }

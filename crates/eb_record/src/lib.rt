@@ -2,10 +2,10 @@
 ghost use mathlib.Core.Path.{_≡_};
 ghost use Rattle.eb_record_spec.specs.Record.{blankBeacon};
 ghost use Rattle.eb_record_spec.specs.Form.{formOf, sequenceFrom, sourceFrom, beaconOf, isBeacon};
-use eb_record_spec::Address;
 use eb_record_spec::Beacon;
 use eb_record_spec::BeaconForm;
-use eb_record_spec::SequenceNumber;
+use mac_header_spec::Address;
+use mac_header_spec::SequenceNumber;
 
 // Whether a form is a record's: no number where there is no sequence number, and no short source over 16 bits.
 pub fn is_beacon(form: BeaconForm) -> bool

@@ -5,10 +5,10 @@ use mathlib.Core.Path.{_≡_}
 use mathlib.Core.Bool.{Bool, true, false, _&&_, _||_}
 use lib.Dec.{ltb, eqb}
 use Rattle.octets_spec.specs.Choice.{ifOn}
-use Rattle.eb_record_spec.specs.declared.SequenceNumber.{SequenceNumber}
-use Rattle.eb_record_spec.specs.declared.SequenceNumber.the-variants.{Absent, Number}
-use Rattle.eb_record_spec.specs.declared.Address.{Address}
-use Rattle.eb_record_spec.specs.declared.Address.the-variants.{Short, Extended}
+use Rattle.mac_header_spec.specs.declared.SequenceNumber.{SequenceNumber}
+use Rattle.mac_header_spec.specs.declared.SequenceNumber.the-variants.{Absent, Number}
+use Rattle.mac_header_spec.specs.declared.Address.{Address}
+use Rattle.mac_header_spec.specs.declared.Address.the-variants.{Short, Extended}
 use Rattle.eb_record_spec.specs.declared.Beacon.{Beacon}
 use Rattle.eb_record_spec.specs.declared.BeaconForm.{BeaconForm}
 use Rattle.eb_record_spec.specs.Record.{blankJoining, blankBeacon}

@@ -2,8 +2,8 @@
 -- information (docs/RULES.md, Refusals). Assumes nothing.
 use mathlib.Core.Bool.{false}
 use lib.ListN.{replicate}
-use Rattle.eb_record_spec.specs.declared.SequenceNumber.the-variants.{Absent}
-use Rattle.eb_record_spec.specs.declared.Address.the-variants.{Short}
+use Rattle.mac_header_spec.specs.declared.SequenceNumber.the-variants.{Absent}
+use Rattle.mac_header_spec.specs.declared.Address.the-variants.{Short}
 use Rattle.eb_record_spec.specs.declared.Link.{Link}
 use Rattle.eb_record_spec.specs.declared.JoiningInformation.{JoiningInformation}
 use Rattle.eb_record_spec.specs.declared.Beacon.{Beacon}

@@ -4,18 +4,6 @@ ghost use mathlib.Core.Path.{_≡_};
 ghost use Rattle.eb_record_spec.specs.Form.{FormsGiveTheRecord, RecordsGiveTheForm, ExtendedHasItsForm, FormsOfNoRecord};
 ghost use Rattle.eb_record_spec.specs.Record.{blankJoining, blankLink};
 
-// A source address: short (2 bytes) or extended (8 bytes).
-pub enum Address {
-    Short(u16),
-    Extended(u64),
-}
-
-// The sequence number, which a frame may suppress.
-pub enum SequenceNumber {
-    Absent,
-    Number(u8),
-}
-
 // The synchronization element: the ASN (5 bytes on air) and the join metric.
 #[repr(C)]
 pub struct Synchronization {
@@ -67,9 +55,9 @@ pub struct JoiningInformation {
 
 // The record.
 pub struct Beacon {
-    pub sequence: SequenceNumber,
+    pub sequence: mac_header_spec::SequenceNumber,
     pub pan: u16,
-    pub source: Address,
+    pub source: mac_header_spec::Address,
     pub synchronization: Synchronization,
     pub timeslot: TimeslotTemplate,
     pub hopping: u8,

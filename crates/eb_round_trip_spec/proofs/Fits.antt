@@ -13,8 +13,8 @@ use Rattle.octets_spec.specs.Choice.{ifOn, ifLt}
 use Rattle.octets_spec.proofs.ChoiceLaws.{if-lt, either-lt, by-test}
 use Rattle.eb_record_spec.specs.Record.{blankLink}
 use Rattle.eb_record_spec.specs.Form.{sourceFits}
-use Rattle.eb_record_spec.specs.declared.SequenceNumber.{SequenceNumber}
-use Rattle.eb_record_spec.specs.declared.Address.{Address}
+use Rattle.mac_header_spec.specs.declared.SequenceNumber.{SequenceNumber}
+use Rattle.mac_header_spec.specs.declared.Address.{Address}
 use Rattle.eb_record_spec.specs.declared.TimeslotTemplate.{TimeslotTemplate}
 use Rattle.eb_record_spec.specs.declared.Link.{Link}
 use Rattle.eb_record_spec.specs.declared.Slotframe.{Slotframe}

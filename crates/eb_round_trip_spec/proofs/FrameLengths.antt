@@ -7,10 +7,10 @@ use lib.ListN.{length}
 use Rattle.octets_spec.specs.Choice.{ifOn}
 use Rattle.octets_spec.specs.Number.{leBytes}
 use Rattle.octets_spec.proofs.ChoiceLaws.{if-on, if-off, by-test}
-use Rattle.eb_record_spec.specs.declared.SequenceNumber.{SequenceNumber}
-use Rattle.eb_record_spec.specs.declared.SequenceNumber.the-variants.{Absent, Number}
-use Rattle.eb_record_spec.specs.declared.Address.{Address}
-use Rattle.eb_record_spec.specs.declared.Address.the-variants.{Short, Extended}
+use Rattle.mac_header_spec.specs.declared.SequenceNumber.{SequenceNumber}
+use Rattle.mac_header_spec.specs.declared.SequenceNumber.the-variants.{Absent, Number}
+use Rattle.mac_header_spec.specs.declared.Address.{Address}
+use Rattle.mac_header_spec.specs.declared.Address.the-variants.{Short, Extended}
 use Rattle.eb_record_spec.specs.declared.JoiningInformation.{JoiningInformation}
 use Rattle.eb_write_spec.specs.Frame.{sequenceBytes, sourceBytes, groupSize, joiningSize, frameLength}
 use Rattle.eb_write_spec.specs.Limits.{presentFits, absentFits, joiningFits}

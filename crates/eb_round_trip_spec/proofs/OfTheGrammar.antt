@@ -14,10 +14,10 @@ use Rattle.octets_spec.specs.Choice.{ifOn, ifLt, ifEq}
 use Rattle.octets_spec.specs.Number.{leBytes, beBytes}
 use Rattle.octets_spec.proofs.ChoiceLaws.{by-lt, by-test, if-lt, if-ge, if-ne, if-on, was-lt}
 use Rattle.eb_record_spec.specs.Record.{blankLink, blankBeacon}
-use Rattle.eb_record_spec.specs.declared.SequenceNumber.{SequenceNumber}
-use Rattle.eb_record_spec.specs.declared.SequenceNumber.the-variants.{Absent, Number}
-use Rattle.eb_record_spec.specs.declared.Address.{Address}
-use Rattle.eb_record_spec.specs.declared.Address.the-variants.{Short, Extended}
+use Rattle.mac_header_spec.specs.declared.SequenceNumber.{SequenceNumber}
+use Rattle.mac_header_spec.specs.declared.SequenceNumber.the-variants.{Absent, Number}
+use Rattle.mac_header_spec.specs.declared.Address.{Address}
+use Rattle.mac_header_spec.specs.declared.Address.the-variants.{Short, Extended}
 use Rattle.eb_record_spec.specs.declared.Synchronization.{Synchronization}
 use Rattle.eb_record_spec.specs.declared.TimeslotTemplate.{TimeslotTemplate}
 use Rattle.eb_record_spec.specs.declared.Link.{Link}

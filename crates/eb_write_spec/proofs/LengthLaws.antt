@@ -11,8 +11,8 @@ use lib.ListN.{length, getD, take, drop, length-append, length-take, length-drop
 use lib.Seq.{drop-cons}
 use Rattle.octets_spec.specs.Choice.{ifOn}
 use Rattle.octets_spec.specs.Number.{leBytes, beBytes}
-use Rattle.eb_record_spec.specs.declared.SequenceNumber.{SequenceNumber}
-use Rattle.eb_record_spec.specs.declared.Address.{Address}
+use Rattle.mac_header_spec.specs.declared.SequenceNumber.{SequenceNumber}
+use Rattle.mac_header_spec.specs.declared.Address.{Address}
 use Rattle.eb_record_spec.specs.declared.Synchronization.{Synchronization}
 use Rattle.eb_record_spec.specs.declared.TimeslotTemplate.{TimeslotTemplate}
 use Rattle.eb_record_spec.specs.declared.Link.{Link}

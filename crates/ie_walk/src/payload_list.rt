@@ -3,8 +3,8 @@
 // only where the group ends the list and nothing is left to read: so calls do not nest with the number of groups in a frame, and the
 // stack that a frame takes does not grow with it.
 ghost use mathlib.Core.Path.{_≡_};
-ghost use Prim.Native.Nat.{_≤_};
-ghost use Rattle.ie_walk_spec.specs.Walk.{seenOf, taken, stopped, skipOne, partTaken, OuterIs, GroupGives, payloadList};
+ghost use Prim.Native.Nat.{_+_, _<_, _≤_, _^_};
+ghost use Rattle.ie_walk_spec.specs.Walk.{blankWalk, seenOf, taken, stopped, skipOne, partTaken, OuterIs, GroupGives, payloadList};
 use ie_step_spec::InnerStep;
 use ie_step_spec::OuterStep;
 use ie_verdict_spec::Seen;
@@ -26,10 +26,11 @@ fn seen_of(walk: Walk) -> Seen
 
 // Counts an element that is skipped.
 fn skip_one(walk: Walk) -> Walk
+    requires { ⌜ walk .skipped + 1 < 2 ^ 64 ⌝ }
     ensures { λ r. ⌜ r ≡ skipOne walk ⌝ }
 {
     Walk {
-        skipped: crate::one_more(walk.skipped),
+        skipped: walk.skipped + 1,
         ..walk
     }
 }
@@ -47,6 +48,7 @@ fn stop(walk: Walk, fault: u8, at: usize) -> Walk
 
 // Notes an element without a fault; one of an unknown kind is skipped.
 fn take(walk: Walk, kind: u64, from: usize, to: usize) -> Walk
+    requires { ⌜ walk .skipped < to ⌝ }
     ensures { λ r. ⌜ r ≡ taken walk kind from to ⌝ }
 {
     if kind == ie_verdict_spec::SYNCHRONIZATION {
@@ -86,6 +88,7 @@ fn take(walk: Walk, kind: u64, from: usize, to: usize) -> Walk
 
 // An element of some kind whose descriptor stands at `at`: it is noted, or the walk stops there.
 fn part(s: &[u8], walk: Walk, kind: u64, from: usize, to: usize, at: usize) -> Walk
+    requires { ⌜ walk .skipped < to ⌝ }
     ensures { λ r. ⌜ r ≡ partTaken (now (s .entry)) walk kind from to at ⌝ }
 {
     let fault = ie_verdict::part_fault(s, kind, from, to, seen_of(walk));
@@ -97,7 +100,7 @@ fn part(s: &[u8], walk: Walk, kind: u64, from: usize, to: usize, at: usize) -> W
 
 // The payload list from an offset on.
 fn outer(s: &[u8], at: usize, end: usize, walk: Walk) -> Walk
-    requires { ⌜ at ≤ end ⌝ }
+    requires { ⌜ (at ≤ end) × (walk .skipped ≤ at) ⌝ }
     ensures { λ r. ⌜ OuterIs (now (s .entry)) at end walk r ⌝ }
 {
     let mut i = at;
@@ -138,7 +141,7 @@ fn outer(s: &[u8], at: usize, end: usize, walk: Walk) -> Walk
 
 // An MLME group from an offset of it to its end. Behind it the payload list goes on; if it is at its end there, that is read too.
 fn group(s: &[u8], at: usize, to: usize, end: usize, walk: Walk) -> GroupEnd
-    requires { ⌜ (at ≤ to) × (to ≤ end) ⌝ }
+    requires { ⌜ (at ≤ to) × (to ≤ end) × (walk .skipped ≤ at) ⌝ }
     ensures { λ r. ⌜ GroupGives (now (s .entry)) at to end walk r ⌝ }
 {
     let mut i = at;
@@ -165,10 +168,29 @@ fn group(s: &[u8], at: usize, to: usize, end: usize, walk: Walk) -> GroupEnd
     }
 }
 
-// The payload list from an offset to an end, with what was noted before.
-pub fn payload_list(s: &[u8], at: usize, end: usize, walk: Walk) -> Walk
-    ensures { λ r. ⌜ r ≡ payloadList (now (s .entry)) at end walk ⌝ }
+// Nothing was noted.
+pub fn blank_walk() -> Walk
+    ensures { λ r. ⌜ r ≡ blankWalk ⌝ }
 {
+    Walk {
+        fault: 0,
+        faulty: 0,
+        skipped: 0,
+        synchronization: 0,
+        timeslot: 0,
+        timeslotend: 0,
+        hopping: 0,
+        slotframe: 0,
+        joining: 0,
+        joiningend: 0,
+    }
+}
+
+// The payload list from an offset to an end.
+pub fn payload_list(s: &[u8], at: usize, end: usize) -> Walk
+    ensures { λ r. ⌜ r ≡ payloadList (now (s .entry)) at end ⌝ }
+{
+    let walk = blank_walk();
     if end < at {
         return walk;
     }

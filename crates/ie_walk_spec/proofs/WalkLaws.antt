@@ -1,25 +1,29 @@
 -- The laws of the walk, in the shape in which the code meets them. Assumes nothing.
-use Prim.Native.Nat.{ℕ, _-_}
+use Prim.Native.Nat.{ℕ, _+_, _≤_}
+use native.Mathlib.Omega.{arith}
 use mathlib.Core.Path.{_≡_, refl, _∙_}
 use mathlib.Core.List.{List}
 use borrow.Author.Tests.{ne-eqb}
 use Rattle.octets_spec.specs.Choice.{ifEq}
-use Rattle.octets_spec.proofs.ChoiceLaws.{if-eq, if-ne, choices}
+use Rattle.octets_spec.proofs.ChoiceLaws.{if-eq, if-ne, either-eq, choices}
 use Rattle.ie_verdict_spec.specs.Verdict.{partFault}
 use Rattle.ie_verdict_spec.specs.declared.Seen.{Seen}
-use Rattle.ie_walk_spec.specs.Walk.{bump, seenOf, skipOne, taken, stopped, partTaken}
+use Rattle.ie_walk_spec.specs.Walk.{blankWalk, seenOf, skipOne, taken, stopped, partTaken}
 use Rattle.ie_walk_spec.specs.declared.Walk.{Walk}
 
 -- ---- notes
+pub blanks : record { fault = 0; faulty = 0; skipped = 0; synchronization = 0; timeslot = 0; timeslotend = 0; hopping = 0; slotframe = 0; joining = 0; joiningend = 0 } ≡ blankWalk
+unfolding blankWalk
+blanks = refl
+
 module _ (w : Walk) where
   pub seens : record { synchronization = w .synchronization; timeslot = w .timeslot; hopping = w .hopping; slotframe = w .slotframe; joining = w .joining } ≡ seenOf w
   unfolding seenOf
   seens = refl
 
-  pub skips : (n : ℕ) → n ≡ bump (w .skipped)
-      → record { fault = w .fault; faulty = w .faulty; skipped = n; synchronization = w .synchronization; timeslot = w .timeslot; timeslotend = w .timeslotend; hopping = w .hopping; slotframe = w .slotframe; joining = w .joining; joiningend = w .joiningend } ≡ skipOne w
+  pub skips : record { fault = w .fault; faulty = w .faulty; skipped = w .skipped + 1; synchronization = w .synchronization; timeslot = w .timeslot; timeslotend = w .timeslotend; hopping = w .hopping; slotframe = w .slotframe; joining = w .joining; joiningend = w .joiningend } ≡ skipOne w
   unfolding skipOne
-  skips n e = rw e
+  skips = refl
 
   pub stops : (fault at : ℕ)
       → record { fault = fault; faulty = at; skipped = w .skipped; synchronization = w .synchronization; timeslot = w .timeslot; timeslotend = w .timeslotend; hopping = w .hopping; slotframe = w .slotframe; joining = w .joining; joiningend = w .joiningend } ≡ stopped w fault at
@@ -65,4 +69,15 @@ module _ (w : Walk) where
     unfolding partTaken
     part-bad bad e = rw (← x, ← f) (if-ne _ _ fault 0 bad e)
 
-pub ruleset notes = (choices, seens, skips, stops, takes-sync, takes-timeslot, takes-hopping, takes-slotframe, takes-joining, takes-none, part-good, part-bad)
+-- an element adds at most one to the count of skipped ones
+taken-counts : (w : Walk) (kind from to : ℕ) → taken w kind from to .skipped ≤ w .skipped + 1
+unfolding taken
+taken-counts w kind from to =
+    let none : w .skipped ≤ w .skipped + 1 = omega arith in
+    either-eq (λ n. n ≤ w .skipped + 1) _ _ none (either-eq (λ n. n ≤ w .skipped + 1) _ _ none (either-eq (λ n. n ≤ w .skipped + 1) _ _ none (either-eq (λ n. n ≤ w .skipped + 1) _ _ none (either-eq (λ n. n ≤ w .skipped + 1) _ _ none (omega arith) kind 258) kind 27) kind 137) kind 28) kind 26
+
+pub part-counts : (s : List ℕ) (w : Walk) (kind from to at : ℕ) → partTaken s w kind from to at .skipped ≤ w .skipped + 1
+unfolding partTaken stopped
+part-counts s w kind from to at = either-eq (λ (q : Walk). q .skipped ≤ w .skipped + 1) _ _ (taken-counts w kind from to) (omega arith) (partFault s kind from to (seenOf w)) 0
+
+pub ruleset notes = (choices, blanks, seens, skips, stops, takes-sync, takes-timeslot, takes-hopping, takes-slotframe, takes-joining, takes-none, part-good, part-bad)

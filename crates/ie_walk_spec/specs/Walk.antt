@@ -1,9 +1,10 @@
 -- The walk over the elements in byte order: the first fault wins, and what stood before it is noted (docs/RULES.md, The order of
 -- checks). The bound, the first argument of each list, only has to be large enough. Assumes nothing.
-use Prim.Native.Nat.{ℕ, zero, suc, _+_, _-_, _*_, _<_}
+use Prim.Native.Nat.{ℕ, zero, suc, _+_, _-_, _*_, _<_, _≤_}
 use mathlib.Core.Path.{_≡_}
-use mathlib.Core.List.{List}
-use Rattle.octets_spec.specs.Choice.{ifLt, ifEq}
+use mathlib.Core.List.{List, [], _∷_}
+use lib.ListN.{length}
+use Rattle.octets_spec.specs.Choice.{ifEq}
 use Rattle.refusal.specs.Refusal.{done}
 use Rattle.ie_verdict_spec.specs.Verdict.{partFault, synchronizationKind, timeslotKind, hoppingKind, slotframeKind, joiningKind}
 use Rattle.ie_verdict_spec.specs.declared.Seen.{Seen}
@@ -17,9 +18,20 @@ use Rattle.ie_walk_spec.specs.declared.HeaderListEnd.{HeaderListEnd}
 use Rattle.ie_walk_spec.specs.declared.GroupEnd.{GroupEnd}
 use Rattle.ie_walk_spec.specs.declared.GroupEnd.the-variants as end-of
 
--- one more, to 255: no frame has as many elements
-unfoldable pub bump : ℕ → ℕ
-bump count = ifLt count 255 (count + 1) count
+-- nothing was noted
+unfoldable pub blankWalk : Walk
+blankWalk = record {
+  fault = done;
+  faulty = 0;
+  skipped = 0;
+  synchronization = 0;
+  timeslot = 0;
+  timeslotend = 0;
+  hopping = 0;
+  slotframe = 0;
+  joining = 0;
+  joiningend = 0;
+}
 
 -- which known elements were taken before
 unfoldable pub seenOf : Walk → Seen
@@ -30,7 +42,7 @@ unfoldable pub skipOne : Walk → Walk
 skipOne walk = record {
   fault = walk .fault;
   faulty = walk .faulty;
-  skipped = bump (walk .skipped);
+  skipped = walk .skipped + 1;
   synchronization = walk .synchronization;
   timeslot = walk .timeslot;
   timeslotend = walk .timeslotend;
@@ -51,7 +63,7 @@ taken walk kind from to = record {
       (ifEq kind hoppingKind (walk .skipped)
       (ifEq kind slotframeKind (walk .skipped)
       (ifEq kind joiningKind (walk .skipped)
-      (bump (walk .skipped))))));
+      (walk .skipped + 1)))));
   synchronization = ifEq kind synchronizationKind from (walk .synchronization);
   timeslot = ifEq kind timeslotKind from (walk .timeslot);
   timeslotend = ifEq kind timeslotKind to (walk .timeslotend);
@@ -82,20 +94,41 @@ partTaken s walk kind from to at =
     let fault : ℕ = partFault s kind from to (seenOf walk) in
     ifEq fault done (taken walk kind from to) (stopped walk fault at)
 
--- how the header list ends: elements are skipped, and payload elements follow, or none do, or there is a fault
-unfoldable pub headerGo : ℕ → List ℕ → ℕ → ℕ → ℕ → HeaderListEnd
-headerGo zero s at end skipped = record { fault = done; faulty = 0; skipped = skipped; payload = 0 }
-headerGo (suc bound) s at end skipped =
+-- an element of the header list: its ID, and from where to where its content goes
+pub record HeaderElement : Type 0 where
+  pub id : ℕ
+  pub from : ℕ
+  pub to : ℕ
+
+-- a header list: its elements in byte order, and how it ends: with a fault at an offset, or where the payload list begins, 0 if none follows
+pub record HeaderList : Type 0 where
+  pub elements : List HeaderElement
+  pub fault : ℕ
+  pub faulty : ℕ
+  pub payload : ℕ
+
+-- a list with one element more in front
+unfoldable pub inFront : HeaderElement → HeaderList → HeaderList
+inFront element list = record { elements = element ∷ list .elements; fault = list .fault; faulty = list .faulty; payload = list .payload }
+
+-- elements follow each other until payload elements follow, or nothing does, or there is a fault
+unfoldable pub headerGo : ℕ → List ℕ → ℕ → ℕ → HeaderList
+headerGo zero s at end = record { elements = []; fault = done; faulty = 0; payload = 0 }
+headerGo (suc bound) s at end =
     elim (headerAt s at end) [
-      | header.End ↦ record { fault = done; faulty = 0; skipped = skipped; payload = 0 }
-      | header.Payload from ↦ record { fault = done; faulty = 0; skipped = skipped; payload = from }
-      | header.Element id from to ↦ headerGo bound s to end (bump skipped)
-      | header.Fault number ↦ record { fault = number; faulty = at; skipped = skipped; payload = 0 }
+      | header.End ↦ record { elements = []; fault = done; faulty = 0; payload = 0 }
+      | header.Payload from ↦ record { elements = []; fault = done; faulty = 0; payload = from }
+      | header.Element id from to ↦ inFront (record { id = id; from = from; to = to }) (headerGo bound s to end)
+      | header.Fault number ↦ record { elements = []; fault = number; faulty = at; payload = 0 }
     ]
 
 -- the header list from an offset to an end
-unfoldable pub headerList : List ℕ → ℕ → ℕ → HeaderListEnd
-headerList s at end = headerGo (suc end) s at end 0
+unfoldable pub headerList : List ℕ → ℕ → ℕ → HeaderList
+headerList s at end = headerGo (suc end) s at end
+
+-- a beacon's reader skips every element of it, and keeps their count
+unfoldable pub skippedOver : HeaderList → HeaderListEnd
+skippedOver list = record { fault = list .fault; faulty = list .faulty; skipped = length (list .elements); payload = list .payload }
 
 -- from the outer list into a group, and back to the outer list at the group's end
 unfoldable mutual
@@ -133,8 +166,8 @@ GroupIs s at to end walk result = (bound : ℕ) → 2 * (end - at) + 1 < bound �
 -- there, the whole gives
 unfoldable pub GroupGives : List ℕ → ℕ → ℕ → ℕ → Walk → GroupEnd → Type 0
 GroupGives s at to end walk (end-of.Whole result) = GroupIs s at to end walk result
-GroupGives s at to end walk (end-of.Passed noted) = (result : Walk) → OuterIs s to end noted result → GroupIs s at to end walk result
+GroupGives s at to end walk (end-of.Passed noted) = (noted .skipped ≤ to) × ((result : Walk) → OuterIs s to end noted result → GroupIs s at to end walk result)
 
--- the payload list from an offset to an end, with what was noted before
-unfoldable pub payloadList : List ℕ → ℕ → ℕ → Walk → Walk
-payloadList s at end walk = outerGo (suc (2 * end)) s at end walk
+-- the payload list from an offset to an end
+unfoldable pub payloadList : List ℕ → ℕ → ℕ → Walk
+payloadList s at end = outerGo (suc (2 * end)) s at end blankWalk

@@ -1,10 +1,14 @@
-// Frame control taken apart, and where the fixed fields of a MAC header are. Nothing here says which frames are accepted.
+// The MAC header of a frame: frame control taken apart, the fixed fields, and where the elements start and end. Nothing here says which
+// frames are accepted.
 ghost use mathlib.Core.Path.{_≡_};
-ghost use Prim.Native.Nat.{_≤_};
+ghost use Prim.Native.Nat.{_≤_, _<_};
 ghost use Rattle.octets_spec.specs.Choice.{ifEq};
-ghost use Rattle.mac_header_spec.specs.Control.{controlOf, addressLength, offsetsOf};
+ghost use Rattle.octets_spec.specs.Number.{leAt};
+ghost use Rattle.mac_header_spec.specs.Control.{controlOf};
+ghost use Rattle.mac_header_spec.specs.Fields.{addressLength, offsetsOf, macHeaderOf, AddressesFit};
 use mac_header_spec::Control;
 use mac_header_spec::FieldOffsets;
+use mac_header_spec::MacHeader;
 
 // Where the parts of frame control begin, each as the value of its lowest bit: security enabled.
 const SECURITY: u64 = 0x0008;
@@ -57,9 +61,9 @@ fn pan_offset(suppressed: u64) -> usize
     2
 }
 
-// Where the fields of a frame with this control word are.
-pub fn offsets_of(control: Control) -> FieldOffsets
-    ensures { λ r. ⌜ r ≡ offsetsOf control ⌝ }
+// Where the fields and the elements of a frame of this size with this control word are.
+pub fn offsets_of(control: Control, size: usize) -> FieldOffsets
+    ensures { λ r. ⌜ r ≡ offsetsOf control size ⌝ }
 {
     let pan = pan_offset(control.suppressed);
     let destination = pan + 2;
@@ -69,5 +73,36 @@ pub fn offsets_of(control: Control) -> FieldOffsets
         destination,
         source,
         elements: source + address_length(control.source),
+        end: size,
+    }
+}
+
+// An address of a mode. Both widths are read: no branch depends on what a frame happens to hold.
+fn address(s: &[u8], mode: u64, at: usize) -> u64
+    ensures { λ r. ⌜ (r ≡ leAt (addressLength mode) (now (s .entry)) at) × ((mode ≡ 3 → ⊥) → r < 0x1_0000) ⌝ }
+{
+    let long = octets::get::le(s, at, 8);
+    let short = octets::get::le(s, at, 2);
+    octets::choose(mode, mac_header_spec::EXTENDED, long, short)
+}
+
+// The fields of a frame's MAC header. Where the frame ends before them, the missing bytes read as 0.
+pub fn read(s: &[u8]) -> MacHeader
+    ensures fields { λ r. ⌜ r ≡ macHeaderOf (now (s .entry)) ⌝ }
+    ensures short { λ r. ⌜ AddressesFit r ⌝ }
+{
+    let control = control_of(octets::get::le(s, 0, 2));
+    let offsets = offsets_of(control, s.len());
+    let pan = offsets.pan;
+    let destination = offsets.destination;
+    let source = offsets.source;
+    MacHeader {
+        control,
+        sequence: octets::choose(control.suppressed, 0, octets::get::byte(s, 2), 0) as u8,
+        pan: octets::get::le(s, pan, 2) as u16,
+        destination: address(s, control.destination, destination),
+        source: address(s, control.source, source),
+        elements: offsets.elements,
+        end: offsets.end,
     }
 }

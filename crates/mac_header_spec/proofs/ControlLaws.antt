@@ -1,59 +1,53 @@
--- The laws of what stands before the elements, in the shape in which the code meets them. Assumes nothing.
+-- The laws of the MAC header's fields, in the shape in which the code meets them. Assumes nothing.
 use Prim.Native.Nat.{ℕ, _+_, _<_, _≤_, _/_, _%_}
-use mathlib.Core.Path.{_≡_, refl, sym, _∙_}
+use mathlib.Core.Path.{_≡_, refl}
+use mathlib.Core.Bool.{Bool, true, false, cond}
 use mathlib.Core.List.{List}
-use lib.ListN.{length}
-use Rattle.octets_spec.specs.Choice.{ifLt, ifEq}
+use native.Mathlib.Omega.{arith}
+use mir.Syntax.{w8}
+use mir.Val.{Fits}
+use lib.Dec.{eqb, lit≤, lit<}
+use lib.ListN.{length, getD}
+use Rattle.octets_spec.specs.Choice.{ifEq}
 use Rattle.octets_spec.specs.Number.{leAt}
-use Rattle.octets_spec.proofs.ChoiceLaws.{if-lt, if-ge, if-eq, if-ne, choices}
-use Rattle.mac_header_spec.specs.Control.{controlOf, formFault, addressLength, offsetsOf, macHeaderFault}
+use Rattle.octets_spec.proofs.ChoiceLaws.{if-ne, either-eq, choices}
+use Rattle.mac_header_spec.specs.Control.{controlOf}
+use Rattle.mac_header_spec.specs.Fields.{addressLength, offsetsOf, macHeaderOf}
 use Rattle.mac_header_spec.specs.declared.Control.{Control}
 use Rattle.mac_header_spec.specs.declared.FieldOffsets.{FieldOffsets}
+use Rattle.mac_header_spec.specs.declared.MacHeader.{MacHeader}
 
 pub controls : (word : ℕ) → record { kind = word % 8; security = word / 8 % 2; compression = word / 64 % 2; suppressed = word / 256 % 2; elements = word / 512 % 2; destination = word / 1024 % 4; version = word / 4096 % 4; source = word / 16384 % 4 } ≡ controlOf word
 unfolding controlOf
 controls word = refl
 
-pub offsets : (control : Control) (pan d n : ℕ) → pan ≡ ifEq (control .suppressed) 0 3 2 → d ≡ addressLength (control .destination) → n ≡ addressLength (control .source)
-    → record { pan = pan; destination = pan + 2; source = pan + 2 + d; elements = pan + 2 + d + n } ≡ offsetsOf control
+pub offsets : (control : Control) (size pan d n : ℕ) → pan ≡ ifEq (control .suppressed) 0 3 2 → d ≡ addressLength (control .destination) → n ≡ addressLength (control .source)
+    → record { pan = pan; destination = pan + 2; source = pan + 2 + d; elements = pan + 2 + d + n; end = size } ≡ offsetsOf control size
 unfolding offsetsOf
-offsets control pan d n e f g = rw (e, f, g)
+offsets control size pan d n e f g = rw (e, f, g)
 
--- ---- each way out of the checks before the elements
-module _ (s : List ℕ) where
-  pub too-long : 125 < length s → 1 ≡ macHeaderFault s
-  unfolding macHeaderFault
-  too-long h = if-lt _ _ _ _ h refl
+-- ---- an address, from eight bytes or from two
+module _ (s : List ℕ) (mode at long short r : ℕ) (e : long ≡ leAt 8 s at) (f : short ≡ leAt 2 s at) (g : r ≡ ifEq mode 3 long short) where
+  pub address-is : r ≡ leAt (addressLength mode) s at
+  unfolding addressLength ifEq
+  address-is = rw (g, e, f) (of (eqb mode 3))
+    where
+      of : (t : Bool) → cond t (leAt 8 s at) (leAt 2 s at) ≡ leAt (cond t 8 2) s at
+      of true = refl
+      of false = refl
 
-  module _ (short : length s ≤ 125) where
-    pub no-control : length s < 2 → 2 ≡ macHeaderFault s
-    unfolding macHeaderFault
-    no-control h = if-ge _ _ _ _ short (if-lt _ _ _ _ h refl)
+  pub address-short : short < 65536 → (mode ≡ 3 → ⊥) → r < 65536
+  address-short small other = let is : short ≡ ifEq mode 3 long short = if-ne _ _ mode 3 other refl in omega (arith, g, is)
 
-    module _ (control : Control) (fault word : ℕ) (some : 2 ≤ length s) (read : word ≡ leAt 2 s 0) (is : control ≡ controlOf word) (form : fault ≡ formFault control) where
-      formed : fault ≡ formFault (controlOf (leAt 2 s 0))
-      formed = rw (is, read) at form
+-- ---- the fields
+pub sequence-small : (suppressed byte sequence : ℕ) → sequence ≡ ifEq suppressed 0 byte 0 → byte < 256 → Fits w8 sequence
+sequence-small suppressed byte sequence e small = record { fits = rw e (either-eq (λ n. n < 256) byte 0 small (lit< tt) suppressed 0) }
 
-      pub bad-form : (fault ≡ 0 → ⊥) → fault ≡ macHeaderFault s
-      unfolding macHeaderFault
-      bad-form h = if-ge _ _ _ _ short (if-ge _ _ _ _ some (if-ne _ _ _ _ (λ (e : formFault (controlOf (leAt 2 s 0)) ≡ 0). h (formed ∙ e)) formed))
+module _ (s : List ℕ) (word : ℕ) (control : Control) (found : FieldOffsets) (e : word ≡ leAt 2 s 0) (f : control ≡ controlOf word) (g : found ≡ offsetsOf control (length s)) where
+  pub fields : (byte sequence pan destination source : ℕ) → byte ≡ getD s 2 0 → sequence ≡ ifEq (control .suppressed) 0 byte 0 → pan ≡ leAt 2 s (found .pan)
+      → destination ≡ leAt (addressLength (control .destination)) s (found .destination) → source ≡ leAt (addressLength (control .source)) s (found .source)
+      → record { control = control; sequence = sequence; pan = pan; destination = destination; source = source; elements = found .elements; end = found .end } ≡ macHeaderOf s
+  unfolding macHeaderOf
+  fields byte sequence pan destination source h i j k l = rw (i, h, j, k, l, g, f, e) refl
 
-      module _ (good : fault ≡ 0) (p : FieldOffsets) (at : p ≡ offsetsOf control) where
-        placed : p ≡ offsetsOf (controlOf (leAt 2 s 0))
-        placed = rw (is, read) at at
-
-        past-form : (r : ℕ) → r ≡ ifLt (length s) (p .elements) 2 (ifEq (leAt 2 s (p .destination)) 65535 0 5) → r ≡ macHeaderFault s
-        unfolding macHeaderFault
-        past-form r e = if-ge _ _ _ _ short (if-ge _ _ _ _ some (if-eq _ _ _ _ (sym formed ∙ good) (rw placed at e)))
-
-        pub fields-cut : length s < p .elements → 2 ≡ macHeaderFault s
-        fields-cut h = past-form 2 (if-lt _ _ _ _ h refl)
-
-        module _ (whole : p .elements ≤ length s) (destination : ℕ) (there : destination ≡ leAt 2 s (p .destination)) where
-          pub no-broadcast : (destination ≡ 65535 → ⊥) → 5 ≡ macHeaderFault s
-          no-broadcast h = past-form 5 (if-ge _ _ _ _ whole (if-ne _ _ _ _ (λ (e : leAt 2 s (p .destination) ≡ 65535). h (there ∙ e)) refl))
-
-          pub opened : destination ≡ 65535 → 0 ≡ macHeaderFault s
-          opened h = past-form 0 (if-ge _ _ _ _ whole (if-eq _ _ _ _ (sym there ∙ h) refl))
-
-pub ruleset controlling = (choices, controls, offsets, too-long, no-control, bad-form, fields-cut, no-broadcast, opened)
+pub ruleset controlling = (choices, controls, offsets, address-is, address-short, sequence-small, fields)

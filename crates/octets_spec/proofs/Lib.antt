@@ -2,3 +2,4 @@ pub mod ChoiceLaws
 pub mod NumberLaws
 pub mod PutLaws
 pub mod CountedLaws
+pub mod SplitLaws

@@ -4,13 +4,16 @@ ghost use Rattle.slot_spec.specs.Slot.{limits, transmitOn, listenOn, action};
 ghost use Rattle.slot_spec.specs.Scan.{foundOf, concluded};
 use slot_spec::Decision;
 use slot_spec::Found;
+use slot_spec::Scan;
+use slot_spec::Search;
+use slot_spec::SlotQuery;
 
 // The most links that a schedule may have.
 const MOST_LINKS: usize = 16;
 // The last ASN: an ASN has five bytes.
 const LAST_ASN: u64 = 0xFF_FFFF_FFFF;
 
-fn result(search: slot_spec::Search) -> Found
+fn result(search: Search) -> Found
     ensures { λ r. ⌜ r ≡ foundOf search ⌝ }
 {
     if search.found {
@@ -19,53 +22,55 @@ fn result(search: slot_spec::Search) -> Found
     Found::Nothing
 }
 
-fn listen(asn: u64, found: Found) -> Decision
-    ensures { λ r. ⌜ r ≡ listenOn asn found ⌝ }
+fn listen(query: SlotQuery, found: Found) -> Decision
+    ensures { λ r. ⌜ r ≡ listenOn query found ⌝ }
 {
     match found {
         Found::At(index, channel_offset) => Decision::Listen(
             index,
-            hopping::channel(asn, channel_offset),
+            hopping::channel(query.asn, channel_offset),
         ),
         Found::Nothing => Decision::Sleep,
     }
 }
 
-fn transmit(asn: u64, found: Found, other: Decision) -> Decision
-    ensures { λ r. ⌜ r ≡ transmitOn asn found other ⌝ }
+fn transmit(query: SlotQuery, found: Found, other: Decision) -> Decision
+    ensures { λ r. ⌜ r ≡ transmitOn query found other ⌝ }
 {
     match found {
         Found::At(index, channel_offset) => Decision::Transmit(
             index,
-            hopping::channel(asn, channel_offset),
+            hopping::channel(query.asn, channel_offset),
         ),
         Found::Nothing => other,
     }
 }
 
 // Whether the schedule and the ASN are within their limits.
-fn within(size: u32, count: usize, below: bool, id: u32, asn: u64) -> bool
-    ensures { λ r. ⌜ r ≡ limits size count below id asn ⌝ }
+fn within(query: SlotQuery, count: usize, below: bool) -> bool
+    ensures { λ r. ⌜ r ≡ limits query count below ⌝ }
 {
-    (1 <= size)
-        & ((1 <= count) & ((count <= MOST_LINKS) & (below & ((id == 0) & (asn <= LAST_ASN)))))
+    (1 <= query.size)
+        & ((1 <= count)
+            & ((count <= MOST_LINKS) & (below & ((query.id == 0) & (query.asn <= LAST_ASN)))))
 }
 
-fn act(asn: u64, waits: bool, sends: Found, hears: Found) -> Decision
-    ensures { λ r. ⌜ r ≡ action asn waits sends hears ⌝ }
+fn act(query: SlotQuery, sends: Found, hears: Found) -> Decision
+    ensures { λ r. ⌜ r ≡ action query sends hears ⌝ }
 {
-    let awaited = listen(asn, hears);
-    if waits {
-        return transmit(asn, sends, awaited);
+    let awaited = listen(query, hears);
+    if query.waits {
+        return transmit(query, sends, awaited);
     }
     awaited
 }
 
-pub fn conclude(seen: slot_spec::Scan, count: usize, id: u32, asn: u64, waits: bool) -> Decision
-    ensures { λ r. ⌜ r ≡ concluded seen count id asn waits ⌝ }
+// The decision from what is known of a whole list, which has so many links.
+pub(crate) fn conclude(query: SlotQuery, count: usize, seen: Scan) -> Decision
+    ensures { λ r. ⌜ r ≡ concluded query count seen ⌝ }
 {
-    if within(seen.size, count, seen.below, id, asn) {
-        return act(asn, waits, result(seen.transmit), result(seen.receive));
+    if within(query, count, seen.below) {
+        return act(query, result(seen.transmit), result(seen.receive));
     }
     Decision::Refused
 }

@@ -1,43 +1,54 @@
-// The slot decision: what a tag does in a slot of its schedule. The schedule is a lent list of links with a slotframe size and a
-// hopping sequence ID. The list is gone through once, from its last link to its first, and is not copied.
+// The slot decision: what a tag does in a slot of its schedule. The schedule is a lent list of links; all else that is asked is one struct.
+// The list is gone through once, by `scan`, and is not copied.
 ghost use mathlib.Core.Path.{_≡_};
 ghost use Rattle.slot_spec.specs.Slot.{decision};
-ghost use Rattle.slot_spec.specs.Scan.{begun};
+ghost use Rattle.slot_spec.specs.Answer.{answerOf, slotAnswer};
 use eb_record_spec::Link;
 use slot_spec::Decision;
-use slot_spec::Scan;
-use slot_spec::Search;
+use slot_spec::SlotAnswer;
+use slot_spec::SlotQuery;
 
-pub mod conclusion;
-pub mod scan;
-pub mod slots;
+mod conclusion;
+mod scan;
 
-fn begin(asn: u64, size: u32) -> Scan
-    ensures { λ r. ⌜ r ≡ begun asn size ⌝ }
+// The decision in the slot of an ASN.
+pub fn decide(links: &[Link], query: SlotQuery) -> Decision
+    ensures decision { λ r. ⌜ r ≡ decision (now (links .entry)) query ⌝ }
+    ensures answer { λ r. ⌜ answerOf r ≡ slotAnswer (now (links .entry)) query ⌝ }
 {
-    let nothing = Search {
-        found: false,
-        index: 0,
-        channel_offset: 0,
-    };
-    Scan {
-        size,
-        slot: crate::slots::slot_offset(asn, size),
-        below: true,
-        transmit: nothing,
-        receive: nothing,
-    }
+    let start = crate::scan::begin(query);
+    let seen = crate::scan::scan(links, start);
+    crate::conclusion::conclude(query, links.len(), seen)
 }
 
-// The decision in the slot of an ASN, where `waits` says whether a frame waits to be sent.
-pub fn decide(links: &[Link], size: u32, id: u32, asn: u64, waits: bool) -> Decision
-    ensures { λ r. ⌜ r ≡ decision (now (links .entry)) size id asn waits ⌝ }
+// The numbers of a decision.
+pub fn answer(decision: Decision) -> SlotAnswer
+    ensures { λ r. ⌜ r ≡ answerOf decision ⌝ }
 {
-    let mut seen = begin(asn, size);
-    let mut i = links.len();
-    while 0 < i {
-        i -= 1;
-        seen = crate::scan::step(seen, links[i], i);
+    match decision {
+        Decision::Refused => SlotAnswer {
+            number: refusal::OUT_OF_LIMITS,
+            action: 0,
+            channel: 0,
+            index: 0,
+        },
+        Decision::Sleep => SlotAnswer {
+            number: refusal::DONE,
+            action: 0,
+            channel: 0,
+            index: 0,
+        },
+        Decision::Transmit(index, channel) => SlotAnswer {
+            number: refusal::DONE,
+            action: 1,
+            channel,
+            index,
+        },
+        Decision::Listen(index, channel) => SlotAnswer {
+            number: refusal::DONE,
+            action: 2,
+            channel,
+            index,
+        },
     }
-    crate::conclusion::conclude(seen, links.len(), id, asn, waits)
 }

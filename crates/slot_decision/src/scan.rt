@@ -1,12 +1,31 @@
-// One link of a schedule: whether it is active and what for, and what is known of the list with it.
+// The links of a schedule: whether one is active and what for, what is known of the list with it, and the pass through the whole list.
 ghost use mathlib.Core.Path.{_≡_};
 ghost use lib.Dec.{ltb};
 ghost use Rattle.octets_spec.specs.Choice.{ifOn};
 ghost use Rattle.slot_spec.specs.Slot.{isActive, optionBit};
-ghost use Rattle.slot_spec.specs.Scan.{searched, stepped};
+ghost use Rattle.slot_spec.specs.Scan.{begun, searched, stepped, scanned};
 use eb_record_spec::Link;
 use slot_spec::Scan;
 use slot_spec::Search;
+use slot_spec::SlotQuery;
+
+// What is known of no links.
+pub(crate) fn begin(query: SlotQuery) -> Scan
+    ensures { λ r. ⌜ r ≡ begun query ⌝ }
+{
+    let nothing = Search {
+        found: false,
+        index: 0,
+        channel_offset: 0,
+    };
+    Scan {
+        size: query.size,
+        slot: remainder::remainder(query.asn, query.size),
+        below: true,
+        transmit: nothing,
+        receive: nothing,
+    }
+}
 
 // A timeslot, as wide as the size of a slotframe.
 fn wide(timeslot: u16) -> u32
@@ -69,7 +88,7 @@ fn searching(serves: bool, index: usize, channel_offset: u16, behind: Search) ->
 }
 
 // One link more in front of those seen, which stands at this index of the list.
-pub fn step(seen: Scan, link: Link, index: usize) -> Scan
+fn step(seen: Scan, link: Link, index: usize) -> Scan
     ensures { λ r. ⌜ r ≡ stepped seen link index ⌝ }
 {
     let active = is_active(seen.slot, link);
@@ -90,4 +109,17 @@ pub fn step(seen: Scan, link: Link, index: usize) -> Scan
             seen.receive,
         ),
     }
+}
+
+// What is known of the whole list. It begins with the last link, so that what a link finds takes the place of what was found behind it.
+pub(crate) fn scan(links: &[Link], start: Scan) -> Scan
+    ensures { λ r. ⌜ r ≡ scanned start 0 (now (links .entry)) ⌝ }
+{
+    let mut seen = start;
+    let mut i = links.len();
+    while 0 < i {
+        i -= 1;
+        seen = step(seen, links[i], i);
+    }
+    seen
 }

@@ -1,5 +1,6 @@
 pub mod SlotLaws
 pub mod Scanned
 pub mod Calling
+pub mod Lent
 pub mod Permutation
 pub mod Sleeps

@@ -1,7 +1,7 @@
 -- What the code finds link by link is what the definition says of the whole list; and what one turn of a loop through the list keeps.
 -- Assumes nothing.
 use Prim.Native.Nat.{ℕ, suc, _+_, _-_, _^_, _<_, _≤_}
-use mathlib.Core.Path.{_≡_, refl, subst, _∙_}
+use mathlib.Core.Path.{_≡_, refl, subst, ap, _∙_}
 use mathlib.Core.Bool.{Bool, true, false, _&&_, and-eq-true-iff}
 use mathlib.Core.List.{List, [], _∷_}
 use native.Mathlib.Nat.{le-refl, mod-eq-of-lt}
@@ -14,17 +14,14 @@ use Rattle.octets_spec.specs.Choice.{ifOn}
 use Rattle.eb_record_spec.specs.declared.Link.{Link}
 use Rattle.eb_record_spec.specs.Record.{blankLink}
 use Rattle.slot_spec.specs.Slot.{limits, timeslotsBelow, slotOffset, isActive, optionBit, firstActive, decision}
-use Rattle.slot_spec.specs.Scan.{begun, searchOf, searched, foundOf, stepped, concluded}
+use Rattle.slot_spec.specs.Scan.{begun, searchOf, searched, foundOf, stepped, scanned, concluded}
+use Rattle.slot_spec.specs.Answer.{answerOf, slotAnswer}
 use Rattle.slot_spec.specs.declared.Found.{Found}
 use Rattle.slot_spec.specs.declared.Found.the-variants.{Nothing, At}
 use Rattle.slot_spec.specs.declared.Scan.{Scan}
+use Rattle.slot_spec.specs.declared.SlotQuery.{SlotQuery}
 use Rattle.slot_spec.specs.declared.Decision.{Decision}
 use Rattle.slot_spec.specs.declared.Decision.the-variants.{Refused}
-
--- what is known of a list whose indices count from `index`
-unfoldable pub scanned : Scan → ℕ → List Link → Scan
-scanned start index [] = start
-scanned start index (link ∷ links) = stepped (scanned start (suc index) links) link index
 
 -- what is known of a list, in the words of the definition
 abbrev known : Scan → ℕ → List Link → Scan
@@ -62,15 +59,15 @@ first-below slot bit index bound [] fits = tt
 first-below slot bit index bound (link ∷ links) fits =
     chosen-below (isActive slot link && optionBit bit link) bound index (link .«channel_offset») (firstActive slot bit (suc index) links) (omega arith) (first-below slot bit (suc index) bound links (omega arith))
 
-scanned-is : (asn size index : ℕ) (links : List Link) → scanned (begun asn size) index links ≡ known (begun asn size) index links
+scanned-is : (query : SlotQuery) (index : ℕ) (links : List Link) → scanned (begun query) index links ≡ known (begun query) index links
 unfolding scanned stepped begun firstActive timeslotsBelow
-scanned-is asn size index [] = refl
-scanned-is asn size index (link ∷ links) = rw (scanned-is asn size (suc index) links) (simp searched-is)
+scanned-is query index [] = refl
+scanned-is query index (link ∷ links) = rw (scanned-is query (suc index) links) (simp searched-is)
 
 -- a schedule within the limits has at most 16 links
-few : (size count : ℕ) (below : Bool) (id asn : ℕ) → limits size count below id asn ≡ true → count ≤ 16
+few : (query : SlotQuery) (count : ℕ) (below : Bool) → limits query count below ≡ true → count ≤ 16
 unfolding limits
-few size count below id asn h = leb-true count 16 (third (leb 1 size) (leb 1 count) (leb count 16) (below && (eqb id 0 && leb asn (2 ^ 40 - 1))) h)
+few query count below h = leb-true count 16 (third (leb 1 (query .size)) (leb 1 count) (leb count 16) (below && (eqb (query .id) 0 && leb (query .asn) (2 ^ 40 - 1))) h)
   where
     third : (a b c d : Bool) → (a && (b && (c && d))) ≡ true → c ≡ true
     third a b c d e = and-eq-true-iff c d .0 (and-eq-true-iff b (c && d) .0 (and-eq-true-iff a (b && (c && d)) .0 e .1) .1) .0
@@ -80,13 +77,13 @@ unfolding ifOn
 if-within true x y h = h refl
 if-within false x y h = refl
 
-decided : (links : List Link) (size id asn : ℕ) (waits : Bool) → concluded (scanned (begun asn size) 0 links) (length links) id asn waits ≡ decision links size id asn waits
+decided : (links : List Link) (query : SlotQuery) → concluded query (length links) (scanned (begun query) 0 links) ≡ decision links query
 unfolding concluded decision begun
-decided links size id asn waits =
-    let slot : ℕ = slotOffset asn size in
+decided links query =
+    let slot : ℕ = slotOffset query in
     let found : (bit : ℕ) → length links ≤ 16 → foundOf (searchOf (firstActive slot bit 0 links)) ≡ firstActive slot bit 0 links = λ bit short. found-is 16 (firstActive slot bit 0 links) (omega arith) (first-below slot bit 0 16 links (omega arith)) in
-    rw (scanned-is asn size 0 links)
-    (if-within (limits size (length links) (timeslotsBelow size links) id asn) _ _ (λ ok. let short = few size (length links) (timeslotsBelow size links) id asn ok in rw (found 0 short, found 1 short)))
+    rw (scanned-is query 0 links)
+    (if-within (limits query (length links) (timeslotsBelow (query .size) links)) _ _ (λ ok. let short = few query (length links) (timeslotsBelow (query .size) links) ok in rw (found 0 short, found 1 short)))
 
 -- ---- a loop through a list: what is known of the links from an index on
 module _ (links : List Link) (start : Scan) where
@@ -103,7 +100,11 @@ module _ (links : List Link) (start : Scan) where
       let one-less : i ≡ suc (i - 1) = omega arith in
       in-front (i - 1) seen next (omega arith) (subst (λ (k : ℕ). seen ≡ scanned start k (drop k links)) one-less so-far) e
 
--- the decision from what a loop through the whole list has left
-pub decides : (links : List Link) (size id asn : ℕ) (waits : Bool) (seen : Scan) (r : Decision) → seen ≡ scanned (begun asn size) 0 links → r ≡ concluded seen (length links) id asn waits
-    → r ≡ decision links size id asn waits
-decides links size id asn waits seen r e f = f ∙ rw e (decided links size id asn waits)
+-- the decision from what is known of the whole list
+pub decides : (links : List Link) (query : SlotQuery) (start seen : Scan) (r : Decision) → start ≡ begun query → seen ≡ scanned start 0 links → r ≡ concluded query (length links) seen → r ≡ decision links query
+decides links query start seen r e₁ e₂ e₃ = e₃ ∙ rw (e₂, e₁) (decided links query)
+
+-- so are its numbers
+pub decides-answer : (links : List Link) (query : SlotQuery) (r : Decision) → r ≡ decision links query → answerOf r ≡ slotAnswer links query
+unfolding slotAnswer
+decides-answer links query r e = ap answerOf e

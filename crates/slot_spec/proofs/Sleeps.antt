@@ -1,19 +1,20 @@
 -- The slot decision sleeps exactly when there is nothing to do. Assumes nothing.
-use Prim.Native.Nat.{ℕ, zero, suc, _<_}
+use Prim.Native.Nat.{ℕ, zero, suc}
 use native.Mathlib.Omega.{arith}
 use mathlib.Core.Path.{_≡_, refl, sym, ap}
 use mathlib.Core.Bool.{Bool, true, false, cond, _&&_}
 use mathlib.Core.List.{List, [], _∷_}
-use lib.ListN.{length}
 use Rattle.octets_spec.specs.Choice.{ifOn, ifEq}
 use Rattle.octets_spec.proofs.ChoiceLaws.{by-test, if-off, was-off}
+use Rattle.remainder.specs.Remainder.{remainderOf}
 use Rattle.eb_record_spec.specs.declared.Link.{Link}
 use Rattle.slot_spec.specs.declared.Decision.{Decision}
 use Rattle.slot_spec.specs.declared.Decision.the-variants.{Refused, Sleep, Transmit, Listen}
+use Rattle.slot_spec.specs.declared.SlotQuery.{SlotQuery}
 use Rattle.slot_spec.specs.declared.Found.{Found}
 use Rattle.slot_spec.specs.declared.Found.the-variants.{Nothing, At}
 use Rattle.slot_spec.specs.Claims.{NoneActive, SleepsExactlyWhenIdle, SomeSleepAndSomeDoNot}
-use Rattle.slot_spec.specs.Hopping.{channelOf, hopping}
+use Rattle.slot_spec.specs.Hopping.{channelOf}
 use Rattle.slot_spec.specs.Slot.{action, decision, firstActive, isActive, limits, listenOn, optionBit, slotOffset, timeslotsBelow, transmitOn}
 
 -- ---- what is found differs from nothing, and what is done from sleeping
@@ -45,32 +46,36 @@ first-none slot bit index (link ∷ links) h =
     sym (if-off _ _ _ test (sym (first-none slot bit (suc index) links (λ i l a. h (suc i) (omega arith) a))))
 
 -- ---- the action
-module _ (asn : ℕ) where
-  slept : (waits : Bool) (transmit receive : Found) → action asn waits transmit receive ≡ Sleep → (receive ≡ Nothing) × (waits ≡ true → transmit ≡ Nothing)
-  unfolding action transmitOn listenOn ifOn
+module _ (query : SlotQuery) where
+  -- the action, with whether a frame waits as a variable
+  abbrev acted : Bool → Found → Found → Decision
+  acted waits transmit receive = ifOn waits (transmitOn query transmit (listenOn query receive)) (listenOn query receive)
+
+  slept : (waits : Bool) (transmit receive : Found) → acted waits transmit receive ≡ Sleep → (receive ≡ Nothing) × (waits ≡ true → transmit ≡ Nothing)
+  unfolding transmitOn listenOn ifOn
   slept true Nothing Nothing e = (refl, λ h. refl)
   slept true Nothing (At index offset) e = absurd (let z : _≡_ {A = ℕ} 1 0 = ap doneAs e in omega arith)
   slept true (At index offset) receive e = absurd (let z : _≡_ {A = ℕ} 1 0 = ap doneAs e in omega arith)
   slept false transmit Nothing e = (refl, λ h. absurd (let z : _≡_ {A = ℕ} 0 1 = ap (λ (b : Bool). cond b 1 0) h in omega arith))
   slept false transmit (At index offset) e = absurd (let z : _≡_ {A = ℕ} 1 0 = ap doneAs e in omega arith)
 
-  sleeping : (waits : Bool) (transmit receive : Found) → receive ≡ Nothing → (waits ≡ true → transmit ≡ Nothing) → action asn waits transmit receive ≡ Sleep
-  unfolding action transmitOn listenOn ifOn
+  sleeping : (waits : Bool) (transmit receive : Found) → receive ≡ Nothing → (waits ≡ true → transmit ≡ Nothing) → acted waits transmit receive ≡ Sleep
+  unfolding transmitOn listenOn ifOn
   sleeping true transmit receive e f = rw (e, f refl)
   sleeping false transmit receive e f = rw e
 
 pub sleeps-exactly-when-idle : SleepsExactlyWhenIdle
-unfolding decision ifOn
-sleeps-exactly-when-idle links size id asn waits within = (
+unfolding decision action ifOn
+sleeps-exactly-when-idle links query within = (
   λ e.
-      let slot = slotOffset asn size in
-      let s = slept asn waits (firstActive slot 0 0 links) (firstActive slot 1 0 links) (rw within at e) in
+      let slot = slotOffset query in
+      let s = slept query (query .waits) (firstActive slot 0 0 links) (firstActive slot 1 0 links) (rw within at e) in
       (none-first slot 1 0 links (s .0), λ w. none-first slot 0 0 links (s .1 w)),
   λ idle.
-      let slot = slotOffset asn size in
-      rw within (sleeping asn waits (firstActive slot 0 0 links) (firstActive slot 1 0 links) (first-none slot 1 0 links (idle .0)) (λ w. first-none slot 0 0 links (idle .1 w))),
+      let slot = slotOffset query in
+      rw within (sleeping query (query .waits) (firstActive slot 0 0 links) (firstActive slot 1 0 links) (first-none slot 1 0 links (idle .0)) (λ w. first-none slot 0 0 links (idle .1 w))),
 )
 
 pub some-sleep-and-some-do-not : SomeSleepAndSomeDoNot
-unfolding limits timeslotsBelow decision slotOffset isActive optionBit firstActive transmitOn listenOn action ifOn ifEq channelOf
+unfolding limits timeslotsBelow decision slotOffset remainderOf isActive optionBit firstActive transmitOn listenOn action ifOn ifEq channelOf
 some-sleep-and-some-do-not = (refl, refl, refl)

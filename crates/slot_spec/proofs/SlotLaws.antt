@@ -1,15 +1,13 @@
 -- The laws of the slot decision in the shape in which the code meets them: one for each way out of a function, with the results of
 -- its calls as variables. Assumes nothing.
-use Prim.Native.Nat.{ℕ, _<_, _-_, _/_, _%_, _^_}
+use Prim.Native.Nat.{ℕ, _/_, _%_}
 use mathlib.Core.Path.{_≡_, refl, sym, _∙_}
 use mathlib.Core.Bool.{Bool, true, false, _&&_, _||_}
-use native.Mathlib.Nat.{div-one, mod-lt, pos-of-ne-zero}
-use native.Mathlib.Omega.{arith}
-use mir.Syntax.{w32}
-use mir.Val.{Fits}
+use native.Mathlib.Nat.{div-one}
 use lib.Dec.{ltb, leb, eqb}
 use Rattle.octets_spec.specs.Choice.{ifOn}
-use Rattle.octets_spec.proofs.ChoiceLaws.{if-on, if-off, if-eq, if-ne, choices}
+use Rattle.octets_spec.proofs.ChoiceLaws.{if-on, if-off, choices}
+use Rattle.remainder.specs.Remainder.{remainderOf}
 use Rattle.eb_record_spec.specs.declared.Link.{Link}
 use Rattle.slot_spec.specs.Hopping.{channelOf}
 use Rattle.slot_spec.specs.Slot.{limits, slotOffset, isActive, optionBit, transmitOn, listenOn, action}
@@ -19,22 +17,11 @@ use Rattle.slot_spec.specs.declared.Found.{Found}
 use Rattle.slot_spec.specs.declared.Found.the-variants.{Nothing, At}
 use Rattle.slot_spec.specs.declared.Search.{Search}
 use Rattle.slot_spec.specs.declared.Scan.{Scan}
+use Rattle.slot_spec.specs.declared.SlotQuery.{SlotQuery}
 use Rattle.slot_spec.specs.declared.Decision.{Decision}
 use Rattle.slot_spec.specs.declared.Decision.the-variants.{Refused, Sleep, Transmit, Listen}
 
--- ---- the slot and a link
-module _ (asn size : ℕ) where
-  pub no-slot : size ≡ 0 → 0 ≡ slotOffset asn size
-  unfolding slotOffset
-  no-slot e = if-eq 0 (asn % size) size 0 e refl
-
-  pub some-slot : (size ≡ 0 → ⊥) → asn % size ≡ slotOffset asn size
-  unfolding slotOffset
-  some-slot n = if-ne 0 (asn % size) size 0 n refl
-
-  pub slot-fits : (size ≡ 0 → ⊥) → size < 2 ^ 32 → Fits w32 (asn % size)
-  slot-fits n small = record { fits = omega (arith, mod-lt asn {m = size} (pos-of-ne-zero n)) }
-
+-- ---- a link
 module _ (link : Link) where
   pub active : (slot timeslot : ℕ) → timeslot ≡ link .timeslot → eqb timeslot slot ≡ isActive slot link
   unfolding isActive
@@ -67,9 +54,9 @@ module _ (search : Search) where
   unfolding foundOf
   results-none e = if-off _ _ _ e refl
 
-pub begins : (asn size slot : ℕ) → slot ≡ slotOffset asn size → record { size = size; slot = slot; below = true; transmit = searchOf Nothing; receive = searchOf Nothing } ≡ begun asn size
-unfolding begun
-begins asn size slot e = rw e
+pub begins : (query : SlotQuery) (slot : ℕ) → slot ≡ remainderOf (query .asn) (query .size) → record { size = query .size; slot = slot; below = true; transmit = searchOf Nothing; receive = searchOf Nothing } ≡ begun query
+unfolding begun slotOffset
+begins query slot e = rw e
 
 pub steps : (seen : Scan) (link : Link) (index : ℕ) (on sends hears low below tx rx : Bool) (transmit receive : Search)
     → on ≡ isActive (seen .slot) link → low ≡ ltb (link .timeslot) (seen .size) → below ≡ (low && seen .below)
@@ -80,45 +67,45 @@ unfolding stepped
 steps seen link index on sends hears low below tx rx transmit receive e₁ l e₂ e₃ e₄ e₅ e₆ e₇ e₈ = rw (e₅, e₈, e₄, e₇, e₃, e₆, e₁, e₂, l)
 
 -- ---- from what was found to the decision
-module _ (asn : ℕ) where
+module _ (query : SlotQuery) where
   module _ (found : Found) where
-    pub listens : (index offset channel : ℕ) → found ≡ At index offset → channel ≡ channelOf asn offset → Listen index channel ≡ listenOn asn found
+    pub listens : (index offset channel : ℕ) → found ≡ At index offset → channel ≡ channelOf (query .asn) offset → Listen index channel ≡ listenOn query found
     unfolding listenOn
     listens index offset channel e f = rw (e, f)
 
-    pub sleeps : found ≡ Nothing → Sleep ≡ listenOn asn found
+    pub sleeps : found ≡ Nothing → Sleep ≡ listenOn query found
     unfolding listenOn
     sleeps e = rw e
 
-    pub sends : (other : Decision) (index offset channel : ℕ) → found ≡ At index offset → channel ≡ channelOf asn offset → Transmit index channel ≡ transmitOn asn found other
+    pub sends : (other : Decision) (index offset channel : ℕ) → found ≡ At index offset → channel ≡ channelOf (query .asn) offset → Transmit index channel ≡ transmitOn query found other
     unfolding transmitOn
     sends other index offset channel e f = rw (e, f)
 
-    pub sends-not : (other : Decision) → found ≡ Nothing → other ≡ transmitOn asn found other
+    pub sends-not : (other : Decision) → found ≡ Nothing → other ≡ transmitOn query found other
     unfolding transmitOn
     sends-not other e = rw e
 
-  module _ (waits : Bool) (transmit receive : Found) (awaited : Decision) (e : awaited ≡ listenOn asn receive) where
-    pub acts-waiting : (r : Decision) → waits ≡ true → r ≡ transmitOn asn transmit awaited → r ≡ action asn waits transmit receive
+  module _ (transmit receive : Found) (awaited : Decision) (e : awaited ≡ listenOn query receive) where
+    pub acts-waiting : (r : Decision) → query .waits ≡ true → r ≡ transmitOn query transmit awaited → r ≡ action query transmit receive
     unfolding action
-    acts-waiting r w f = if-on _ _ waits w (rw e at f)
+    acts-waiting r w f = if-on _ _ (query .waits) w (rw e at f)
 
-    pub acts-idle : waits ≡ false → awaited ≡ action asn waits transmit receive
+    pub acts-idle : query .waits ≡ false → awaited ≡ action query transmit receive
     unfolding action
-    acts-idle w = if-off _ _ waits w e
+    acts-idle w = if-off _ _ (query .waits) w e
 
-pub checks : (size count : ℕ) (below : Bool) (id asn : ℕ) → leb 1 size && (leb 1 count && (leb count 16 && (below && (eqb id 0 && leb asn 1099511627775)))) ≡ limits size count below id asn
-unfolding limits
-checks size count below id asn = refl
+  pub checks : (count : ℕ) (below : Bool) → leb 1 (query .size) && (leb 1 count && (leb count 16 && (below && (eqb (query .id) 0 && leb (query .asn) 1099511627775)))) ≡ limits query count below
+  unfolding limits
+  checks count below = refl
 
-module _ (seen : Scan) (count id asn : ℕ) (waits ok : Bool) (e : ok ≡ limits (seen .size) count (seen .below) id asn) where
-  pub concludes : (r : Decision) (transmit receive : Found) → ok ≡ true → transmit ≡ foundOf (seen .transmit) → receive ≡ foundOf (seen .receive) → r ≡ action asn waits transmit receive → r ≡ concluded seen count id asn waits
-  unfolding concluded
-  concludes r transmit receive t g h f = if-on _ _ _ (sym e ∙ t) (rw (g, h) at f)
+  module _ (count : ℕ) (seen : Scan) (ok : Bool) (e : ok ≡ limits query count (seen .below)) where
+    pub concludes : (r : Decision) (transmit receive : Found) → ok ≡ true → transmit ≡ foundOf (seen .transmit) → receive ≡ foundOf (seen .receive) → r ≡ action query transmit receive → r ≡ concluded query count seen
+    unfolding concluded
+    concludes r transmit receive t g h f = if-on _ _ _ (sym e ∙ t) (rw (g, h) at f)
 
-  pub refuses : ok ≡ false → Refused ≡ concluded seen count id asn waits
-  unfolding concluded
-  refuses t = if-off _ _ _ (sym e ∙ t) refl
+    pub refuses : ok ≡ false → Refused ≡ concluded query count seen
+    unfolding concluded
+    refuses t = if-off _ _ _ (sym e ∙ t) refl
 
 -- ---- the numbers of a decision
 module _ (d : Decision) where
@@ -138,4 +125,4 @@ module _ (d : Decision) where
   unfolding answerOf
   answers-listen index channel e = rw e
 
-pub ruleset slots = (choices, no-slot, some-slot, slot-fits, active, below-size, transmits, receives, searches, results, results-none, begins, steps, listens, sleeps, sends, sends-not, acts-waiting, acts-idle, checks, concludes, refuses, answers-refused, answers-sleep, answers-transmit, answers-listen)
+pub ruleset slots = (choices, active, below-size, transmits, receives, searches, results, results-none, begins, steps, listens, sleeps, sends, sends-not, acts-waiting, acts-idle, checks, concludes, refuses, answers-refused, answers-sleep, answers-transmit, answers-listen)

@@ -7,6 +7,7 @@ use lib.ListN.{length, getD}
 use Rattle.eb_record_spec.specs.declared.Link.{Link}
 use Rattle.eb_record_spec.specs.Record.{blankLink}
 use Rattle.slot_spec.specs.declared.Decision.the-variants.{Sleep, Listen}
+use Rattle.slot_spec.specs.declared.SlotQuery.{SlotQuery}
 use Rattle.slot_spec.specs.Slot.{decision, isActive, limits, optionBit, slotOffset, timeslotsBelow}
 
 -- no link that is active in a slot has an option bit
@@ -20,12 +21,14 @@ Idle slot waits links = NoneActive slot 1 links × (waits ≡ true → NoneActiv
 -- within the limits a tag sleeps exactly when there is nothing to do
 abbrev pub SleepsExactlyWhenIdle : Type 0
 SleepsExactlyWhenIdle =
-    (links : List Link) (size id asn : ℕ) (waits : Bool) → limits size (length links) (timeslotsBelow size links) id asn ≡ true →
-    (decision links size id asn waits ≡ Sleep → Idle (slotOffset asn size) waits links)
-    × (Idle (slotOffset asn size) waits links → decision links size id asn waits ≡ Sleep)
+    (links : List Link) (query : SlotQuery) → limits query (length links) (timeslotsBelow (query .size) links) ≡ true →
+    (decision links query ≡ Sleep → Idle (slotOffset query) (query .waits) links)
+    × (Idle (slotOffset query) (query .waits) links → decision links query ≡ Sleep)
 
 -- both happen within the limits: a link to transmit and receive in slot 0 of 11 sleeps at ASN 1, and listens at ASN 0
 abbrev pub SomeSleepAndSomeDoNot : Type 0
 SomeSleepAndSomeDoNot =
     let links : List Link = record { timeslot = 0; «channel_offset» = 0; options = 15 } ∷ [] in
-    (limits 11 1 (timeslotsBelow 11 links) 0 1 ≡ true) × (decision links 11 0 1 true ≡ Sleep) × (decision links 11 0 0 false ≡ Listen 0 16)
+    let sleeper : SlotQuery = record { size = 11; id = 0; asn = 1; waits = true } in
+    let listener : SlotQuery = record { size = 11; id = 0; asn = 0; waits = false } in
+    (limits sleeper 1 (timeslotsBelow 11 links) ≡ true) × (decision links sleeper ≡ Sleep) × (decision links listener ≡ Listen 0 16)

@@ -4,11 +4,13 @@ use mathlib.Core.Bool.{Bool, true, _&&_}
 use mathlib.Core.List.{List, [], _∷_}
 use lib.Dec.{ltb, leb, eqb}
 use lib.ListN.{length}
-use Rattle.octets_spec.specs.Choice.{ifOn, ifEq}
+use Rattle.octets_spec.specs.Choice.{ifOn}
+use Rattle.remainder.specs.Remainder.{remainderOf}
 use Rattle.eb_record_spec.specs.declared.Link.{Link}
 use Rattle.slot_spec.specs.Hopping.{channelOf}
 use Rattle.slot_spec.specs.declared.Found.{Found}
 use Rattle.slot_spec.specs.declared.Found.the-variants.{Nothing, At}
+use Rattle.slot_spec.specs.declared.SlotQuery.{SlotQuery}
 use Rattle.slot_spec.specs.declared.Decision.{Decision}
 use Rattle.slot_spec.specs.declared.Decision.the-variants.{Refused, Sleep, Transmit, Listen}
 
@@ -18,12 +20,12 @@ timeslotsBelow size [] = true
 timeslotsBelow size (link ∷ links) = ltb (link .timeslot) size && timeslotsBelow size links
 
 -- the limits: size at least 1, 1 to 16 links, every timeslot below the size, sequence ID 0, ASN at most 2^40 - 1
-unfoldable pub limits : ℕ → ℕ → Bool → ℕ → ℕ → Bool
-limits size count below id asn = leb 1 size && (leb 1 count && (leb count 16 && (below && (eqb id 0 && leb asn (2 ^ 40 - 1)))))
+unfoldable pub limits : SlotQuery → ℕ → Bool → Bool
+limits query count below = leb 1 (query .size) && (leb 1 count && (leb count 16 && (below && (eqb (query .id) 0 && leb (query .asn) (2 ^ 40 - 1)))))
 
 -- the slot of the slotframe in which an ASN falls: ASN mod size (and 0 at size 0, which the limits exclude)
-unfoldable pub slotOffset : ℕ → ℕ → ℕ
-slotOffset asn size = ifEq size 0 0 (asn % size)
+unfoldable pub slotOffset : SlotQuery → ℕ
+slotOffset query = remainderOf (query .asn) (query .size)
 
 -- a link is active in the slot that is its timeslot
 unfoldable pub isActive : ℕ → Link → Bool
@@ -39,23 +41,23 @@ firstActive slot bit index [] = Nothing
 firstActive slot bit index (link ∷ links) = ifOn (isActive slot link && optionBit bit link) (At index (link .«channel_offset»)) (firstActive slot bit (suc index) links)
 
 -- transmit on the link that was found, or else do the other
-unfoldable pub transmitOn : ℕ → Found → Decision → Decision
-transmitOn asn Nothing other = other
-transmitOn asn (At index offset) other = Transmit index (channelOf asn offset)
+unfoldable pub transmitOn : SlotQuery → Found → Decision → Decision
+transmitOn query Nothing other = other
+transmitOn query (At index offset) other = Transmit index (channelOf (query .asn) offset)
 
 -- listen on the link that was found, or else sleep
-unfoldable pub listenOn : ℕ → Found → Decision
-listenOn asn Nothing = Sleep
-listenOn asn (At index offset) = Listen index (channelOf asn offset)
+unfoldable pub listenOn : SlotQuery → Found → Decision
+listenOn query Nothing = Sleep
+listenOn query (At index offset) = Listen index (channelOf (query .asn) offset)
 
 -- if a frame waits, transmit on the first link for that; else listen on the first link for that; else sleep
-unfoldable pub action : ℕ → Bool → Found → Found → Decision
-action asn waits transmit receive = ifOn waits (transmitOn asn transmit (listenOn asn receive)) (listenOn asn receive)
+unfoldable pub action : SlotQuery → Found → Found → Decision
+action query transmit receive = ifOn (query .waits) (transmitOn query transmit (listenOn query receive)) (listenOn query receive)
 
--- the slot decision on a list of links, a slotframe size, a hopping sequence ID and an ASN
-unfoldable pub decision : List Link → ℕ → ℕ → ℕ → Bool → Decision
-decision links size id asn waits =
-    let slot = slotOffset asn size in
-    ifOn (limits size (length links) (timeslotsBelow size links) id asn)
-    (action asn waits (firstActive slot 0 0 links) (firstActive slot 1 0 links))
+-- the slot decision on a list of links, with a slotframe size, a hopping sequence ID and an ASN
+unfoldable pub decision : List Link → SlotQuery → Decision
+decision links query =
+    let slot = slotOffset query in
+    ifOn (limits query (length links) (timeslotsBelow (query .size) links))
+    (action query (firstActive slot 0 0 links) (firstActive slot 1 0 links))
     Refused

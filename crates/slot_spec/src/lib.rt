@@ -10,6 +10,15 @@ pub enum Decision {
     Listen(u8, u8),
 }
 
+// What a decision is asked beside the links: the slotframe's size, the hopping sequence ID, the ASN of the slot, and whether a frame waits
+// to be sent.
+pub struct SlotQuery {
+    pub size: u32,
+    pub id: u32,
+    pub asn: u64,
+    pub waits: bool,
+}
+
 // The numbers of a decision: of the refusal, of the action (0 sleep, 1 transmit, 2 listen), the channel and the link's index.
 #[repr(C)]
 pub struct SlotAnswer {

@@ -16,8 +16,8 @@ returns c = search (needs, reading)
 header-list-requires : tie.Need-header-list-requires
 header-list-requires c κs = search needs
 
-elements-walk-requires : tie.Need-elements-walk-requires
-elements-walk-requires c κs = search needs
+behind-header-requires : tie.Need-behind-header-requires
+behind-header-requires c κs = search (needs, reading)
 
 walk-number-requires : tie.Need-walk-number-requires
 walk-number-requires c κs = search (needs, reading)
@@ -34,5 +34,13 @@ returns-3 c = search (needs, reading)
 pub accepted-walk-spec : {M : Type 1} → statement M
 accepted-walk-spec =
     tie.close
-    (tie.spec mac-header-fault-requires blank-walk-requires returns header-list-requires elements-walk-requires
-    walk-number-requires blank-walk-requires-2 returns-2 returns-3)
+    (tie.spec
+    mac-header-fault-requires
+    blank-walk-requires
+    returns
+    header-list-requires
+    behind-header-requires
+    walk-number-requires
+    blank-walk-requires-2
+    returns-2
+    returns-3)

@@ -17,8 +17,8 @@ returns c = (search (needs, reading), accepted-lies-inside)
 header-list-requires : tie.Need-header-list-requires
 header-list-requires c κs = search needs
 
-elements-walk-requires : tie.Need-elements-walk-requires
-elements-walk-requires c κs = search needs
+behind-header-requires : tie.Need-behind-header-requires
+behind-header-requires c κs = search (needs, reading)
 
 walk-number-requires : tie.Need-walk-number-requires
 walk-number-requires c κs = search (needs, reading)
@@ -29,5 +29,11 @@ returns-2 c = (search (needs, reading), accepted-lies-inside)
 pub examine-spec : {M : Type 1} → statement M
 examine-spec =
     tie.close
-    (tie.spec mac-header-fault-requires blank-walk-requires returns header-list-requires elements-walk-requires
-    walk-number-requires returns-2)
+    (tie.spec
+    mac-header-fault-requires
+    blank-walk-requires
+    returns
+    header-list-requires
+    behind-header-requires
+    walk-number-requires
+    returns-2)

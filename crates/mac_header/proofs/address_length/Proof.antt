@@ -1,5 +1,5 @@
 -- `mac_header::address_length` meets its contract. Assumes nothing.
-use Rattle.mac_header_spec.specs.Control.{addressLength}
+use Rattle.mac_header_spec.specs.Fields.{addressLength}
 use Rattle.mac_header_spec.proofs.ControlLaws.{controlling}
 use borrow.Author.Needs.{needs}
 use Rattle.mac_header.proofs.address_length.Statement.{statement}

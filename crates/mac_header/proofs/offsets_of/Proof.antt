@@ -19,8 +19,8 @@ add-source c = search needs
 address-length-requires-2 : tie.Need-address-length-requires-2
 address-length-requires-2 c κs = search needs
 
-add-t6 : tie.Need-add-t6
-add-t6 c = search needs
+add-t7 : tie.Need-add-t7
+add-t7 c = search needs
 
 returns : tie.Need-returns
 returns c = search (needs, controlling) depth 12
@@ -28,5 +28,11 @@ returns c = search (needs, controlling) depth 12
 pub offsets-of-spec : {M : Type 1} → statement M
 offsets-of-spec =
     tie.close
-    (tie.spec pan-offset-requires add-destination address-length-requires add-source address-length-requires-2 add-t6
+    (tie.spec
+    pan-offset-requires
+    add-destination
+    address-length-requires
+    add-source
+    address-length-requires-2
+    add-t7
     returns)

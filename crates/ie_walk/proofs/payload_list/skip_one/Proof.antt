@@ -4,11 +4,11 @@ use borrow.Author.Needs.{needs}
 use Rattle.ie_walk.proofs.payload_list.skip_one.Statement.{statement}
 use Rattle.ie_walk.proofs.payload_list.skip_one.Tie as tie
 
-one-more-requires : tie.Need-one-more-requires
-one-more-requires c κs = search needs
+add-t2 : tie.Need-add-t2
+add-t2 c = search needs
 
 returns : tie.Need-returns
 returns c = search (needs, notes)
 
 pub skip-one-spec : {M : Type 1} → statement M
-skip-one-spec = tie.close (tie.spec one-more-requires returns)
+skip-one-spec = tie.close (tie.spec add-t2 returns)

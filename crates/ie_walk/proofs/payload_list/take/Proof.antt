@@ -1,5 +1,5 @@
 -- `ie_walk::payload_list::take` meets its contract. Assumes nothing.
-use Rattle.ie_walk_spec.proofs.WalkLaws.{takes-hopping, notes}
+use Rattle.ie_walk_spec.proofs.WalkLaws.{notes}
 use borrow.Author.Needs.{needs}
 use Rattle.ie_walk.proofs.payload_list.take.Statement.{statement}
 use Rattle.ie_walk.proofs.payload_list.take.Tie as tie
@@ -11,7 +11,7 @@ returns-2 : tie.Need-returns-2
 returns-2 c = search (needs, notes)
 
 returns-3 : tie.Need-returns-3
-returns-3 c = takes-hopping _ _ _ _ (search needs)
+returns-3 c = search (needs, notes)
 
 returns-4 : tie.Need-returns-4
 returns-4 c = search (needs, notes)

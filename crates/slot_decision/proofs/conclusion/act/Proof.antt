@@ -11,7 +11,7 @@ transmit-requires : tie.Need-transmit-requires
 transmit-requires c κs = search needs
 
 returns : tie.Need-returns
-returns c = acts-waiting _ _ _ _ _ (c .before .before .listen .ensures) _ (c .before .if1 .taken) (c .transmit .ensures)
+returns c = acts-waiting _ _ _ _ (c .before .before .listen .ensures) _ (c .before .if1 .taken) (c .transmit .ensures)
 
 returns-2 : tie.Need-returns-2
 returns-2 c = search (needs, acts-idle)

@@ -4,7 +4,7 @@ use Rattle.slot_decision.proofs.conclusion.within.Statement.{statement}
 use Rattle.slot_decision.proofs.conclusion.within.Tie as tie
 
 returns : tie.Need-returns
-returns c = checks _ _ _ _ _
+returns c = checks _ _ _
 
 pub within-spec : {M : Type 1} → statement M
 within-spec = tie.close (tie.spec returns)
