@@ -35,13 +35,13 @@ module _ (s : List ℕ) where
 
   -- ---- elements
   module _ (at id : ℕ) (i : id ≡ getD s at 0) where
-    pub template-bare : (length : ℕ) → length ≡ 1 → record { id = id; timed = false; timings = replicate 12 0 } ≡ templateAt s at length
+    pub template-bare : (size : ℕ) → size ≡ 1 → record { id = id; timed = false; timings = replicate 12 0 } ≡ templateAt s at size
     unfolding templateAt
-    template-bare length h = if-eq _ _ length 1 h (rw i)
+    template-bare size h = if-eq _ _ size 1 h (rw i)
 
-    pub template-timed : (length width : ℕ) (all : List ℕ) → (length ≡ 1 → ⊥) → width ≡ ifEq length 27 3 2 → all ≡ counted (timingAt s at width) 12 → record { id = id; timed = true; timings = all } ≡ templateAt s at length
+    pub template-timed : (size width : ℕ) (all : List ℕ) → (size ≡ 1 → ⊥) → width ≡ ifEq size 27 3 2 → all ≡ counted (timingAt s at width) 12 → record { id = id; timed = true; timings = all } ≡ templateAt s at size
     unfolding templateAt
-    template-timed length width all h e f = if-ne _ _ length 1 h (rw (i, f, e))
+    template-timed size width all h e f = if-ne _ _ size 1 h (rw (i, f, e))
 
   pub links-at : (at i timeslot offset options : ℕ) → timeslot ≡ leAt 2 s (at + (5 + 5 * i)) → offset ≡ leAt 2 s (at + (7 + 5 * i)) → options ≡ getD s (at + (9 + 5 * i)) 0
       → record { timeslot = timeslot; «channel_offset» = offset; options = options } ≡ linkAt s at i
@@ -67,8 +67,8 @@ module _ (s : List ℕ) where
     pub joining-absent : (j : JoiningInformation) → j ≡ blankJoining → at ≡ 0 → j ≡ joiningAt s at to
     joining-absent j e h = e ∙ joining-none blankBeacon refl h
 
-    pub joining-is : (word skip length address : ℕ) (all : List ℕ) → (at ≡ 0 → ⊥) → word ≡ beAt 4 s at → skip ≡ networkOffset s at → length ≡ min (to - at - skip) 16
-        → address ≡ ifEq (word / 1073741824 % 2) 1 (beAt 8 s (at + 4)) 0 → all ≡ padded (λ i. getD s (at + (skip + i)) 0) 0 16 length
+    pub joining-is : (word skip size address : ℕ) (all : List ℕ) → (at ≡ 0 → ⊥) → word ≡ beAt 4 s at → skip ≡ networkOffset s at → size ≡ min (to - at - skip) 16
+        → address ≡ ifEq (word / 1073741824 % 2) 1 (beAt 8 s (at + 4)) 0 → all ≡ padded (λ i. getD s (at + (skip + i)) 0) 0 16 size
         → record {
           present = true;
           router = eqb (word / 2147483648 % 2) 1;
@@ -77,11 +77,11 @@ module _ (s : List ℕ) where
           rank = word / 256 % 4096;
           pan = word % 256;
           address = address;
-          length = length;
+          length = size;
           network = all;
         } ≡ joiningAt s at to
     unfolding joiningAt
-    joining-is word skip length address all h e f g k m = if-ne _ _ at 0 h (rw (k, m, g, f, e))
+    joining-is word skip size address all h e f g k m = if-ne _ _ at 0 h (rw (k, m, g, f, e))
 
   -- ---- the whole
   pub decodes : (w : Walk) (sequence : SequenceNumber) (pan : ℕ) (source : Address) (y : Synchronization) (t : TimeslotTemplate) (size hopping : ℕ) (f : Slotframe) (j : JoiningInformation) → sequence ≡ sequenceOf (macHeaderOf s) → pan ≡ macHeaderOf s .pan

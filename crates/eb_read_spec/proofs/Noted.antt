@@ -79,9 +79,9 @@ limits-passed s at e =
     let some : getD s (at + 4) 0 ≡ 0 → ⊥ = links .0 in
     record { some = omega arith; few = most .0; sized = omega arith; below = all .0 }
 
-slotframe-passed : (s : List ℕ) (at length seen : ℕ) → slotframeFaultAt s at length seen ≡ 0 → SlotframePassed s at
+slotframe-passed : (s : List ℕ) (at bytes seen : ℕ) → slotframeFaultAt s at bytes seen ≡ 0 → SlotframePassed s at
 unfolding slotframeFaultAt slotframeFault
-slotframe-passed s at length seen =
+slotframe-passed s at bytes seen =
     each-eq (λ (n : ℕ). n ≡ 0 → SlotframePassed s at) _ _ _ _ (λ shaped e. limits-passed s at (was-eq _ _ _ _ _ e twice .1)) (λ misshapen e. absurd (misshapen e))
 
 timeslot-passed : (s : List ℕ) (at to seen : ℕ) → timeslotFault (to - at) seen (getD s at 0) ≡ 0 → TimeslotPassed s at to

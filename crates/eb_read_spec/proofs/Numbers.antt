@@ -65,29 +65,29 @@ once-small : (seen : ℕ) → Late (onceOnly seen)
 unfolding onceOnly
 once-small seen = either-eq Late _ _ tt tt _ _
 
-timeslot-small : (length seen id : ℕ) → Late (timeslotFault length seen id)
+timeslot-small : (bytes seen id : ℕ) → Late (timeslotFault bytes seen id)
 unfolding timeslotFault
-timeslot-small length seen id = either-on Late _ _ tt (either-eq Late _ _ (either-on Late _ _ tt tt _) tt _ _) _
+timeslot-small bytes seen id = either-on Late _ _ tt (either-eq Late _ _ (either-on Late _ _ tt tt _) tt _ _) _
 
-hopping-small : (length seen : ℕ) → Late (hoppingFault length seen)
+hopping-small : (bytes seen : ℕ) → Late (hoppingFault bytes seen)
 unfolding hoppingFault
-hopping-small length seen = either-eq Late _ _ tt (either-eq Late _ _ (either-lt Late _ _ tt tt _ _) tt _ _) _ _
+hopping-small bytes seen = either-eq Late _ _ tt (either-eq Late _ _ (either-lt Late _ _ tt tt _ _) tt _ _) _ _
 
-shape-small : (length count links : ℕ) → Late (slotframeShape length count links)
+shape-small : (bytes count links : ℕ) → Late (slotframeShape bytes count links)
 unfolding slotframeShape
-shape-small length count links = either-lt Late _ _ tt (either-eq Late _ _ (either-eq Late _ _ tt tt _ _) tt _ _) _ _
+shape-small bytes count links = either-lt Late _ _ tt (either-eq Late _ _ (either-eq Late _ _ tt tt _ _) tt _ _) _ _
 
 limits-small : (size links : ℕ) (below : Bool) → Late (slotframeLimits size links below)
 unfolding slotframeLimits
 limits-small size links below = either-eq Late _ _ tt (either-eq Late _ _ tt (either-lt Late _ _ tt (either-on Late _ _ tt tt _) _ _) _ _) _ _
 
-slotframe-small : (s : List ℕ) (from length seen : ℕ) → Late (slotframeFaultAt s from length seen)
+slotframe-small : (s : List ℕ) (from bytes seen : ℕ) → Late (slotframeFaultAt s from bytes seen)
 unfolding slotframeFaultAt slotframeFault
-slotframe-small s from length seen = either-eq Late _ _ (either-eq Late _ _ (limits-small _ _ _) tt _ _) (shape-small _ _ _) _ _
+slotframe-small s from bytes seen = either-eq Late _ _ (either-eq Late _ _ (limits-small _ _ _) tt _ _) (shape-small _ _ _) _ _
 
-joining-small : (length seen proxied : ℕ) → Late (joiningFault length seen proxied)
+joining-small : (bytes seen proxied : ℕ) → Late (joiningFault bytes seen proxied)
 unfolding joiningFault
-joining-small length seen proxied = either-lt Late _ _ tt (either-lt Late _ _ tt (either-lt Late _ _ tt (once-small seen) _ _) _ _) _ _
+joining-small bytes seen proxied = either-lt Late _ _ tt (either-lt Late _ _ tt (either-lt Late _ _ tt (once-small seen) _ _) _ _) _ _
 
 part-small : (s : List ℕ) (kind from to : ℕ) (seen : Seen) → Late (partFault s kind from to seen)
 unfolding partFault syncFault

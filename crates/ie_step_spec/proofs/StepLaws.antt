@@ -66,9 +66,9 @@ module _ (s : List ℕ) (at end : ℕ) where
     inner-here r e = two-left at end _ _ _ r some two (rw read at e)
 
 -- what lies within an element lies within its list
-pub widen : (r : OuterStep) (from length end : ℕ) → from ≤ end → length ≤ end - from → outerWithin r from (from + length) → outerWithin r from end
-widen outer.End from length end fits buffer within = tt
-widen (outer.Group b e) from length end fits buffer within = (within .0, within .1, omega arith)
-widen (outer.Joining b e) from length end fits buffer within = (within .0, within .1, omega arith)
-widen (outer.Skip e) from length end fits buffer within = (within .0, omega arith)
-widen (outer.Fault number) from length end fits buffer within = tt
+pub widen : (r : OuterStep) (from size end : ℕ) → from ≤ end → size ≤ end - from → outerWithin r from (from + size) → outerWithin r from end
+widen outer.End from size end fits buffer within = tt
+widen (outer.Group b e) from size end fits buffer within = (within .0, within .1, omega arith)
+widen (outer.Joining b e) from size end fits buffer within = (within .0, within .1, omega arith)
+widen (outer.Skip e) from size end fits buffer within = (within .0, omega arith)
+widen (outer.Fault number) from size end fits buffer within = tt

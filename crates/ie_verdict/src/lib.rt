@@ -19,57 +19,57 @@ fn twice(seen: usize) -> u8
     refusal::MISSING_OR_TWICE
 }
 
-fn sync_fault(length: usize, seen: usize) -> u8
-    ensures { λ r. ⌜ r ≡ syncFault length seen ⌝ }
+fn sync_fault(size: usize, seen: usize) -> u8
+    ensures { λ r. ⌜ r ≡ syncFault size seen ⌝ }
 {
-    if length == 6 {
+    if size == 6 {
         return twice(seen);
     }
     refusal::SHAPE
 }
 
-fn timeslot_fault(length: usize, seen: usize, id: u64) -> u8
-    ensures { λ r. ⌜ r ≡ timeslotFault length seen id ⌝ }
+fn timeslot_fault(size: usize, seen: usize, id: u64) -> u8
+    ensures { λ r. ⌜ r ≡ timeslotFault size seen id ⌝ }
 {
-    if (length != 1) & ((length != 25) & (length != 27)) {
+    if (size != 1) & ((size != 25) & (size != 27)) {
         return refusal::SHAPE;
     }
     if seen != 0 {
         return refusal::MISSING_OR_TWICE;
     }
-    if (length == 1) & (id != 0) {
+    if (size == 1) & (id != 0) {
         return refusal::OUT_OF_LIMITS;
     }
     refusal::DONE
 }
 
-fn hopping_fault(length: usize, seen: usize) -> u8
-    ensures { λ r. ⌜ r ≡ hoppingFault length seen ⌝ }
+fn hopping_fault(size: usize, seen: usize) -> u8
+    ensures { λ r. ⌜ r ≡ hoppingFault size seen ⌝ }
 {
-    if length == 0 {
+    if size == 0 {
         return refusal::SHAPE;
     }
     if seen != 0 {
         return refusal::MISSING_OR_TWICE;
     }
-    if 1 < length {
+    if 1 < size {
         return refusal::OUT_OF_LIMITS;
     }
     refusal::DONE
 }
 
-fn joining_fault(length: usize, seen: usize, proxied: u64) -> u8
+fn joining_fault(size: usize, seen: usize, proxied: u64) -> u8
     requires { ⌜ proxied < 2 ⌝ }
-    ensures { λ r. ⌜ r ≡ joiningFault length seen proxied ⌝ }
+    ensures { λ r. ⌜ r ≡ joiningFault size seen proxied ⌝ }
 {
     let fixed = 4 + 8 * proxied as usize;
-    if length < 4 {
+    if size < 4 {
         return refusal::SHAPE;
     }
-    if length < fixed {
+    if size < fixed {
         return refusal::SHAPE;
     }
-    if fixed + 16 < length {
+    if fixed + 16 < size {
         return refusal::SHAPE;
     }
     twice(seen)
@@ -80,25 +80,21 @@ fn joining_fault(length: usize, seen: usize, proxied: u64) -> u8
 pub fn part_fault(s: &[u8], kind: u64, from: usize, to: usize, seen: ie_verdict_spec::Seen) -> u8
     ensures { λ r. ⌜ r ≡ partFault (now (s .entry)) kind from to seen ⌝ }
 {
-    let length = octets::span(from, to);
+    let size = octets::span(from, to);
     if kind == ie_verdict_spec::SYNCHRONIZATION {
-        return sync_fault(length, seen.synchronization);
+        return sync_fault(size, seen.synchronization);
     }
     if kind == ie_verdict_spec::TIMESLOT {
-        return timeslot_fault(length, seen.timeslot, octets::get::byte(s, from));
+        return timeslot_fault(size, seen.timeslot, octets::get::byte(s, from));
     }
     if kind == ie_verdict_spec::HOPPING {
-        return hopping_fault(length, seen.hopping);
+        return hopping_fault(size, seen.hopping);
     }
     if kind == ie_verdict_spec::SLOTFRAME {
-        return crate::slotframe_fault::slotframe_fault(s, from, length, seen.slotframe);
+        return crate::slotframe_fault::slotframe_fault(s, from, size, seen.slotframe);
     }
     if kind == ie_verdict_spec::JOINING {
-        return joining_fault(
-            length,
-            seen.joining,
-            octets::get::byte(s, from) / PROXIED % 2,
-        );
+        return joining_fault(size, seen.joining, octets::get::byte(s, from) / PROXIED % 2);
     }
     refusal::DONE
 }

@@ -41,18 +41,18 @@ fn timeslots_fit(s: &[u8], at: usize, links: usize, size: u64) -> bool
 
 // The fault of a slotframe and link element of so many bytes from an offset on, and 0 if it has none. `seen` is the offset of one that
 // was taken before, and 0 if there was none.
-pub(crate) fn slotframe_fault(s: &[u8], from: usize, length: usize, seen: usize) -> u8
-    requires { ⌜ from + length < 2 ^ 64 ⌝ }
-    ensures { λ r. ⌜ r ≡ slotframeFaultAt (now (s .entry)) from length seen ⌝ }
+pub(crate) fn slotframe_fault(s: &[u8], from: usize, bytes: usize, seen: usize) -> u8
+    requires { ⌜ from + bytes < 2 ^ 64 ⌝ }
+    ensures { λ r. ⌜ r ≡ slotframeFaultAt (now (s .entry)) from bytes seen ⌝ }
 {
-    if length < 5 {
+    if bytes < 5 {
         return refusal::SHAPE;
     }
     if octets::get::byte(s, from) != 1 {
         return refusal::OUT_OF_LIMITS;
     }
     let links = octets::get::byte(s, from + 4) as usize;
-    if length != 5 + 5 * links {
+    if bytes != 5 + 5 * links {
         return refusal::SHAPE;
     }
     if seen != 0 {

@@ -31,69 +31,69 @@ module _ (s : List ℕ) (size : ℕ) where
     fit-end none = let e : left ≡ 0 = omega arith in rw e at so-far
 
 -- ---- the slotframe and link element
-module _ (s : List ℕ) (from length seen : ℕ) where
-  module _ (count links fault : ℕ) (c : count ≡ getD s from 0) (l : links ≡ getD s (from + 4) 0) (e : fault ≡ slotframeShape length count links) where
-    frame-shape : (fault ≡ 0 → ⊥) → fault ≡ slotframeFaultAt s from length seen
+module _ (s : List ℕ) (from bytes seen : ℕ) where
+  module _ (count links fault : ℕ) (c : count ≡ getD s from 0) (l : links ≡ getD s (from + 4) 0) (e : fault ≡ slotframeShape bytes count links) where
+    frame-shape : (fault ≡ 0 → ⊥) → fault ≡ slotframeFaultAt s from bytes seen
     unfolding slotframeFaultAt slotframeFault
     frame-shape bad = rw (← c, ← l, ← e) (if-ne _ _ fault 0 bad refl)
 
     module _ (good : fault ≡ 0) where
-      frame-again : (seen ≡ 0 → ⊥) → 7 ≡ slotframeFaultAt s from length seen
+      frame-again : (seen ≡ 0 → ⊥) → 7 ≡ slotframeFaultAt s from bytes seen
       unfolding slotframeFaultAt slotframeFault
       frame-again again = rw (← c, ← l, ← e) (if-eq _ _ fault 0 good (if-ne _ _ seen 0 again refl))
 
-      pub frame-limits : (size r : ℕ) (below : Bool) → seen ≡ 0 → size ≡ leAt 2 s (from + 2) → below ≡ timeslotsFit s (from + 5) links size → r ≡ slotframeLimits size links below → r ≡ slotframeFaultAt s from length seen
+      pub frame-limits : (size r : ℕ) (below : Bool) → seen ≡ 0 → size ≡ leAt 2 s (from + 2) → below ≡ timeslotsFit s (from + 5) links size → r ≡ slotframeLimits size links below → r ≡ slotframeFaultAt s from bytes seen
       unfolding slotframeFaultAt slotframeFault
       frame-limits size r below once z b k = rw (← c, ← l, ← e, ← z, ← b) (if-eq _ _ fault 0 good (if-eq _ _ seen 0 once k))
 
-  pub frame-short : length < 5 → 6 ≡ slotframeFaultAt s from length seen
+  pub frame-short : bytes < 5 → 6 ≡ slotframeFaultAt s from bytes seen
   unfolding slotframeShape
-  frame-short h = frame-shape _ _ 6 refl refl (if-lt _ _ length 5 h refl) (λ (z : 6 ≡ 0). omega arith)
+  frame-short h = frame-shape _ _ 6 refl refl (if-lt _ _ bytes 5 h refl) (λ (z : 6 ≡ 0). omega arith)
 
-  module _ (long : 5 ≤ length) (count : ℕ) (c : count ≡ getD s from 0) where
-    pub frame-count : (count ≡ 1 → ⊥) → 8 ≡ slotframeFaultAt s from length seen
+  module _ (long : 5 ≤ bytes) (count : ℕ) (c : count ≡ getD s from 0) where
+    pub frame-count : (count ≡ 1 → ⊥) → 8 ≡ slotframeFaultAt s from bytes seen
     unfolding slotframeShape
-    frame-count bad = frame-shape count _ 8 c refl (if-ge _ _ length 5 long (if-ne _ _ count 1 bad refl)) (λ (z : 8 ≡ 0). omega arith)
+    frame-count bad = frame-shape count _ 8 c refl (if-ge _ _ bytes 5 long (if-ne _ _ count 1 bad refl)) (λ (z : 8 ≡ 0). omega arith)
 
     module _ (one : count ≡ 1) (links : ℕ) (l : links ≡ getD s (from + 4) 0) where
-      pub frame-length : (length ≡ 5 + 5 * links → ⊥) → 6 ≡ slotframeFaultAt s from length seen
+      pub frame-length : (bytes ≡ 5 + 5 * links → ⊥) → 6 ≡ slotframeFaultAt s from bytes seen
       unfolding slotframeShape
-      frame-length bad = frame-shape count links 6 c l (if-ge _ _ length 5 long (if-eq _ _ count 1 one (if-ne _ _ length _ bad refl))) (λ (z : 6 ≡ 0). omega arith)
+      frame-length bad = frame-shape count links 6 c l (if-ge _ _ bytes 5 long (if-eq _ _ count 1 one (if-ne _ _ bytes _ bad refl))) (λ (z : 6 ≡ 0). omega arith)
 
-      module _ (exact : length ≡ 5 + 5 * links) where
-        shaped : 0 ≡ slotframeShape length count links
+      module _ (exact : bytes ≡ 5 + 5 * links) where
+        shaped : 0 ≡ slotframeShape bytes count links
         unfolding slotframeShape
-        shaped = if-ge _ _ length 5 long (if-eq _ _ count 1 one (if-eq _ _ length _ exact refl))
+        shaped = if-ge _ _ bytes 5 long (if-eq _ _ count 1 one (if-eq _ _ bytes _ exact refl))
 
-        pub frame-twice : (seen ≡ 0 → ⊥) → 7 ≡ slotframeFaultAt s from length seen
+        pub frame-twice : (seen ≡ 0 → ⊥) → 7 ≡ slotframeFaultAt s from bytes seen
         frame-twice = frame-again count links 0 c l shaped refl
 
-        pub frame-within : (size r : ℕ) (below : Bool) → seen ≡ 0 → size ≡ leAt 2 s (from + 2) → below ≡ timeslotsFit s (from + 5) links size → r ≡ slotframeLimits size links below → r ≡ slotframeFaultAt s from length seen
+        pub frame-within : (size r : ℕ) (below : Bool) → seen ≡ 0 → size ≡ leAt 2 s (from + 2) → below ≡ timeslotsFit s (from + 5) links size → r ≡ slotframeLimits size links below → r ≡ slotframeFaultAt s from bytes seen
         frame-within = frame-limits count links 0 c l shaped refl
 
 -- ---- an element by its kind
-module _ (s : List ℕ) (kind from to : ℕ) (seen : Seen) (length r : ℕ) (l : length ≡ to - from) where
-  pub part-sync : kind ≡ 26 → r ≡ syncFault length (seen .synchronization) → r ≡ partFault s kind from to seen
+module _ (s : List ℕ) (kind from to : ℕ) (seen : Seen) (bytes r : ℕ) (l : bytes ≡ to - from) where
+  pub part-sync : kind ≡ 26 → r ≡ syncFault bytes (seen .synchronization) → r ≡ partFault s kind from to seen
   unfolding partFault
   part-sync k e = if-eq _ _ kind 26 k (rw l at e)
 
   module _ (no-sync : kind ≡ 26 → ⊥) where
-    pub part-timeslot : (id : ℕ) → kind ≡ 28 → id ≡ getD s from 0 → r ≡ timeslotFault length (seen .timeslot) id → r ≡ partFault s kind from to seen
+    pub part-timeslot : (id : ℕ) → kind ≡ 28 → id ≡ getD s from 0 → r ≡ timeslotFault bytes (seen .timeslot) id → r ≡ partFault s kind from to seen
     unfolding partFault
     part-timeslot id k i e = if-ne _ _ kind 26 no-sync (if-eq _ _ kind 28 k (rw (l, i) at e))
 
     module _ (no-timeslot : kind ≡ 28 → ⊥) where
-      pub part-hopping : kind ≡ 137 → r ≡ hoppingFault length (seen .hopping) → r ≡ partFault s kind from to seen
+      pub part-hopping : kind ≡ 137 → r ≡ hoppingFault bytes (seen .hopping) → r ≡ partFault s kind from to seen
       unfolding partFault
       part-hopping k e = if-ne _ _ kind 26 no-sync (if-ne _ _ kind 28 no-timeslot (if-eq _ _ kind 137 k (rw l at e)))
 
       module _ (no-hopping : kind ≡ 137 → ⊥) where
-        pub part-slotframe : kind ≡ 27 → r ≡ slotframeFaultAt s from length (seen .slotframe) → r ≡ partFault s kind from to seen
+        pub part-slotframe : kind ≡ 27 → r ≡ slotframeFaultAt s from bytes (seen .slotframe) → r ≡ partFault s kind from to seen
         unfolding partFault
         part-slotframe k e = if-ne _ _ kind 26 no-sync (if-ne _ _ kind 28 no-timeslot (if-ne _ _ kind 137 no-hopping (if-eq _ _ kind 27 k (rw l at e))))
 
         module _ (no-slotframe : kind ≡ 27 → ⊥) where
-          pub part-joining : (first : ℕ) → kind ≡ 258 → first ≡ getD s from 0 → r ≡ joiningFault length (seen .joining) (first / 64 % 2) → r ≡ partFault s kind from to seen
+          pub part-joining : (first : ℕ) → kind ≡ 258 → first ≡ getD s from 0 → r ≡ joiningFault bytes (seen .joining) (first / 64 % 2) → r ≡ partFault s kind from to seen
           unfolding partFault
           part-joining first k f e = if-ne _ _ kind 26 no-sync (if-ne _ _ kind 28 no-timeslot (if-ne _ _ kind 137 no-hopping (if-ne _ _ kind 27 no-slotframe (if-eq _ _ kind 258 k (rw (l, f) at e)))))
 

@@ -54,12 +54,12 @@ fn template(id: u8, timings: [u32; 12]) {
 }
 
 // The first bytes of a beacon of 38, laid out field by field in docs/RULES.md.
-fn cut(length: usize)
-    requires { ⌜ length ≤ 38 ⌝ }
+fn cut(bytes: usize)
+    requires { ⌜ bytes ≤ 38 ⌝ }
 {
     let s =
         *b"\x40\xAB\x34\x12\xFF\xFF\x07\x00\x00\x3F\x1A\x88\x06\x1A\x00\x01\x00\x00\x00\x02\x01\x1C\x00\x01\xC8\x00\x0A\x1B\x01\x00\x0B\x00\x01\x00\x00\x00\x00\x0F";
-    frame(&s[..length]);
+    frame(&s[..bytes]);
 }
 
 // RFC 8180, appendix A.2, with some group length: the RFC prints A.1's, 26, and the elements take 50. It breaks off after the length of
