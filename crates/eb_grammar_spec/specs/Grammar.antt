@@ -62,6 +62,7 @@ pub record Descriptor (split low high size id top : ℕ) : Type 0 where
 
 -- header elements: bits 0-6 length, 7-14 ID, 15 zero
 pub data HeaderElements : List ℕ → Type 0 where
+  -- no more of them: what ends the list stands in `Accepts`
   header-end : HeaderElements []
   -- all are skipped, but those that end the list: ID 0x7E, and 0x7F, behind which no payload elements follow
   header-element : (low high id : ℕ) (content : List ℕ) {rest : List ℕ} → Descriptor 7 low high (length content) id 0 → (id ≡ 0x7E → ⊥) → (id ≡ 0x7F → ⊥) → HeaderElements rest
@@ -89,6 +90,7 @@ pub data SubDescriptor (low high size : ℕ) : ℕ → Type 0 where
 
 -- the sub-elements of a group, to the group's end
 pub data SubElements : List ℕ → List Element → Type 0 where
+  -- the group's end
   group-end : SubElements [] []
   -- of any kind: the unknown ones are not asked for below
   sub-element : (low high kind : ℕ) (content : List ℕ) {rest : List ℕ} {found : List Element} → SubDescriptor low high (length content) kind → SubElements rest found
@@ -125,6 +127,7 @@ pub data TimeslotContent : List ℕ → TimeslotTemplate → Type 0 where
 
 -- the links of a slotframe of this size
 pub data Links (size : ℕ) : List ℕ → List Link → Type 0 where
+  -- no more links
   no-links : Links size [] []
   -- timeslot (2, below size), channel offset (2), options (1, kept whole)
   one-link : (timeslot offset options : ℕ) {bytes rest : List ℕ} {links : List Link} → Row (2 ∷ 2 ∷ 1 ∷ []) bytes (timeslot ∷ offset ∷ options ∷ []) → timeslot < size
@@ -141,8 +144,8 @@ pub data SlotframeContent : List ℕ → Slotframe → Type 0 where
 pub data JoiningContent : List (List ℕ) → JoiningInformation → Type 0 where
   -- it may be absent
   absent : JoiningContent [] blankJoining
-  -- or there once. Most significant bit first: R 1, P 1, reserved 3 (ignored), proxy priority 7, rank priority 12, PAN priority 8; then 8
-  -- address bytes if P; then 0 to 16 bytes of network ID; in the record, sixteen bytes, the unused ones zero
+  -- or there once, most significant bit first: R 1, P 1, reserved 3 (ignored), proxy priority 7, rank priority 12, PAN priority 8; then 8
+  -- address bytes if P; then 0 to 16 bytes of network ID, which the record fills up with zeros
   joining : (word address network : List ℕ) → length word ≡ 4 → length address ≡ 8 * bits 30 1 (be word) → length network ≤ 16
       → JoiningContent ((word ++ (address ++ network)) ∷ []) (record {
         present = true;
@@ -179,8 +182,7 @@ pub record Says (found : List Element) (beacon : Beacon) : Type 0 where
   -- joining information, IETF subtype 2
   pub joining : JoiningContent (contents (ietf 2) found) (beacon .joining)
 
--- a frame that is accepted, and the record that it says: at most 125 bytes; the fixed fields, header elements, the header ID 0x7E without
--- a length, payload elements
+-- a frame that is accepted, and what it says: at most 125 bytes; fixed fields, header elements, ID 0x7E without a length, payload elements
 pub record Accepts (frame : List ℕ) (beacon : Beacon) : Type 0 where
   pub fields : List ℕ
   pub header : List ℕ

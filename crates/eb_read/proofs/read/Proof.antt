@@ -1,6 +1,4 @@
 -- `eb_read::read` meets its contract. Assumes nothing.
-use native.Mathlib.Omega.{arith}
-use Rattle.eb_read_spec.specs.Claims.{Bytes}
 use Rattle.eb_grammar_spec.proofs.SaidLaws.{read-as-said}
 use Rattle.eb_read_spec.proofs.Claimed.{numbers-to-8, one-is-the-length}
 use Rattle.eb_read_spec.proofs.Accepted.{accepted-may-be-decided-on}
@@ -18,9 +16,8 @@ blank-requires c κs = search needs
 
 returns : tie.Need-returns
 returns c =
-    let bytes : Bytes (c .before .before .before .before .before .args .s .now) = λ i. omega (arith, c .before .before .before .before .shared-slice-known .given i) in
     let is = read-refused _ _ (c .before .before .before .examine .ensures .0) _ (search needs) (c .blank .ensures) in
-    (is, (numbers-to-8, (one-is-the-length, (accepted-may-be-decided-on, read-as-said _ bytes _ is))))
+    (is, (numbers-to-8, (one-is-the-length, (accepted-may-be-decided-on, read-as-said _ (search needs) _ _ is))))
 
 decode-requires : tie.Need-decode-requires
 decode-requires c κs = search needs
@@ -30,9 +27,8 @@ beacon-of-requires c κs = search needs
 
 returns-2 : tie.Need-returns-2
 returns-2 c =
-    let bytes : Bytes (c .before .before .before .before .before .before .before .args .s .now) = λ i. omega (arith, c .before .before .before .before .before .before .shared-slice-known .given i) in
     let is = read-record _ _ (c .before .before .before .before .before .examine .ensures .0) (search needs) _ (c .before .decode .ensures .0) _ (c .before .decode .ensures .1) (c .beacon-of .ensures) in
-    (is, (numbers-to-8, (one-is-the-length, (accepted-may-be-decided-on, read-as-said _ bytes _ is))))
+    (is, (numbers-to-8, (one-is-the-length, (accepted-may-be-decided-on, read-as-said _ (search needs) _ _ is))))
 
 pub read-spec : {M : Type 1} → statement M
 read-spec =
