@@ -10,7 +10,7 @@ use lib.Dec.{T, ltb}
 use lib.ListN.{length, getD, replicate, length-append}
 use Rattle.octets_spec.specs.Choice.{ifEq}
 use Rattle.octets_spec.specs.Number.{leAt}
-use Rattle.octets_spec.proofs.ChoiceLaws.{if-ge, if-eq, if-ne, if-on, was-eq, was-ne, was-ge, was-on}
+use Rattle.octets_spec.proofs.ChoiceLaws.{if-ge, if-eq, if-ne, if-on, was-eq, was-ge}
 use Rattle.eb_record_spec.specs.Record.{blankLink}
 use Rattle.eb_record_spec.specs.declared.Link.{Link}
 use Rattle.eb_record_spec.specs.declared.Slotframe.{Slotframe}
@@ -18,7 +18,7 @@ use Rattle.ie_verdict_spec.specs.Verdict.{slotframeShape, slotframeLimits, slot
 use Rattle.eb_read_spec.specs.Decode.{linkAt, slotframeAt}
 use Rattle.eb_read_spec.proofs.DecodeLaws.{links-at, slotframe-is}
 use Rattle.eb_read_spec.proofs.Each.{each-eq}
-use Rattle.eb_read_spec.proofs.Noted.{wrong-shape, twice, over-limits}
+use Rattle.eb_read_spec.proofs.Noted.{wrong-shape, over-limits, kind-slotframe}
 use Rattle.eb_grammar_spec.proofs.Stands.{Stands, stands-first, stands-rest, stands-at, byte-is}
 use Rattle.eb_grammar_spec.specs.Row.{Row}
 use Rattle.eb_grammar_spec.specs.Grammar.{Links, no-links, one-link, SlotframeContent, slotframe}
@@ -87,31 +87,15 @@ module _ (s : List ℕ) (at : ℕ) where
       let shaped : slotframeShape bytes 1 n ≡ 0 = sym (if-ge _ _ bytes 5 (omega arith) (if-eq _ _ 1 1 refl (if-eq _ _ bytes (5 + 5 * n) long refl))) in
       sym (if-eq _ _ _ _ shaped (if-eq _ _ 0 0 refl (if-ne _ _ size 0 (λ z. omega (arith, z)) (if-ne _ _ n 0 (λ z. omega (arith, z)) (if-ge _ _ 16 n few (if-on _ _ below all refl))))))
 
-  record Passed (bytes count size n : ℕ) (below : Bool) : Type 0 where
-    one : count ≡ 1
-    long : bytes ≡ 5 + 5 * n
-    some-size : 1 ≤ size
-    some : 1 ≤ n
-    few : n ≤ 16
-    all : below ≡ true
+  shape-says : (bytes count n : ℕ) → slotframeShape bytes count n ≡ 0 → (count ≡ 1) × (bytes ≡ 5 + 5 * n)
+  unfolding slotframeShape
+  shape-says bytes count n e =
+      let one = was-eq _ _ _ _ _ (was-ge _ _ _ _ _ e wrong-shape .1) over-limits in
+      (one .0, was-eq _ _ _ _ _ (one .1) wrong-shape .0)
 
-  was-passed : (bytes count size n : ℕ) (below : Bool) → slotframeFault bytes 0 count size n below ≡ 0 → Passed bytes count size n below
-  unfolding slotframeFault slotframeShape slotframeLimits
-  was-passed bytes count size n below =
-      each-eq (λ (k : ℕ). k ≡ 0 → Passed bytes count size n below) _ _ (slotframeShape bytes count n) 0
-      (λ shaped e.
-      let least = was-ge _ _ _ _ _ shaped wrong-shape in
-      let one = was-eq _ _ _ _ _ (least .1) over-limits in
-      let long = was-eq _ _ _ _ _ (one .1) wrong-shape .0 in
-      let first = was-eq _ _ _ _ _ e twice in
-      let size-is = was-ne _ _ _ _ _ (first .1) over-limits in
-      let links-are = was-ne _ _ _ _ _ (size-is .1) over-limits in
-      let most = was-ge _ _ _ _ _ (links-are .1) over-limits in
-      let every = was-on _ _ _ _ (most .1) over-limits in
-      let not-0 : size ≡ 0 → ⊥ = size-is .0 in
-      let not-none : n ≡ 0 → ⊥ = links-are .0 in
-      record { one = one .0; long = long; some-size = omega arith; some = omega arith; few = most .0; all = every .0 })
-      (λ misshapen e. absurd (misshapen e))
+  fault-says : (bytes : ℕ) → slotframeFaultAt s at bytes 0 ≡ 0 → (getD s at 0 ≡ 1) × (bytes ≡ 5 + 5 * getD s (at + 4) 0)
+  unfolding slotframeFaultAt slotframeFault
+  fault-says bytes = each-eq (λ (k : ℕ). k ≡ 0 → (getD s at 0 ≡ 1) × (bytes ≡ 5 + 5 * getD s (at + 4) 0)) _ _ _ 0 (λ shaped e. shape-says bytes _ _ shaped) (λ misshapen e. absurd (misshapen e))
 
   -- what a content of the grammar has at its places
   record Reads (c : List ℕ) (handle size : ℕ) (links : List Link) : Type 0 where
@@ -157,20 +141,21 @@ module _ (s : List ℕ) (at : ℕ) where
   content-as c xs f e k = rw e k
 
   slotframe-some : (c : List ℕ) → Stands s at c → partFault s 27 at (at + length c) unseen ≡ 0 → (f : Slotframe) × SlotframeContent c f
-  unfolding partFault slotframeFaultAt ifEq numbersAt total
+  unfolding partFault ifEq numbersAt total
   slotframe-some c h e =
       let n : ℕ = getD s (at + 4) 0 in
       let size : ℕ = leAt 2 s (at + 2) in
-      let p = was-passed _ _ _ _ _ (rw (add-sub-cancel-left at (length c)) at e) in
+      let shape = fault-says (length c) (rw (add-sub-cancel-left at (length c)) at e) in
+      let p = kind-slotframe s at _ unseen e in
       let links : List Link = countFrom (linkAt s at) 0 n in
       let many : length links ≡ n = length-count (linkAt s at) n 0 in
       let zero-at : at + 0 ≡ at = add-zero at in
       let row : Row (1 ∷ 1 ∷ 2 ∷ 1 ∷ []) (part s at 5) (1 ∷ leAt 1 s (at + 1) ∷ size ∷ length links ∷ []) =
-      let e₁ : leAt 1 s at ≡ 1 = one-byte s at ∙ p .one in
+      let e₁ : leAt 1 s at ≡ 1 = one-byte s at ∙ shape .0 in
       let e₄ : leAt 1 s (at + 4) ≡ length links = one-byte s (at + 4) ∙ sym many in
       rw (zero-at, e₁, e₄) at (row-of s (1 ∷ 1 ∷ 2 ∷ 1 ∷ []) at 0) in
-      let content = slotframe (leAt 1 s (at + 1)) size links row (links-some size n 0 (p .all)) (p .some-size) (rw many (p .some)) (rw many (p .few)) in
-      (_, content-as c _ _ (part-stands s at c h ∙ (part-at s at at (length c) (5 + 5 * n) refl (p .long) ∙ part-append s at 5 (5 * n))) content)
+      let content = slotframe (leAt 1 s (at + 1)) size links row (links-some size n 0 (p .below)) (p .sized) (rw many (p .some)) (rw many (p .few)) in
+      (_, content-as c _ _ (part-stands s at c h ∙ (part-at s at at (length c) (5 + 5 * n) refl (shape .1) ∙ part-append s at 5 (5 * n))) content)
 
   pub slotframe-says : (c : List ℕ) → Stands s at c → partFault s 27 at (at + length c) unseen ≡ 0 → SlotframeContent c (slotframeAt s at)
   slotframe-says c h e = let some = slotframe-some c h e in subst (λ f. SlotframeContent c f) (slotframe-value c _ (some .1) h) (some .1)
