@@ -9,6 +9,7 @@ pub mod damage;
 pub mod direct;
 pub mod frame;
 pub mod frames;
+pub mod grammar;
 pub mod header;
 pub mod interface;
 #[cfg(feature = "library")]

@@ -3,12 +3,15 @@ ghost use mathlib.Core.Path.{_≡_};
 ghost use Rattle.eb_read_spec.specs.Read.{readFrame};
 ghost use Rattle.eb_read_spec.specs.Form.{formReading};
 ghost use Rattle.eb_read_spec.specs.Network.{networkSpan};
+ghost use Rattle.eb_grammar_spec.specs.Claims.{FormReadAsSaid};
 use eb_read_spec::FormReading;
 
-// The number of a frame and its record, which is the blank one if the frame is refused.
+// The number of a frame and its record, which is the blank one if the frame is refused: done exactly with the record that the bytes say
+// by the grammar.
 #[no_mangle]
 pub extern "C" fn tesolvagna_beacon_read(s: &[u8]) -> FormReading
-    ensures { λ r. ⌜ r ≡ formReading (readFrame (now (s .entry))) ⌝ }
+    ensures answer { λ r. ⌜ r ≡ formReading (readFrame (now (s .entry))) ⌝ }
+    ensures as_said { λ r. ⌜ FormReadAsSaid (now (s .entry)) (r .number) (r .beacon) ⌝ }
 {
     let found = eb_examine::examine(s);
     if found.number != refusal::DONE {

@@ -59,13 +59,13 @@ pub record Noted (s : List ℕ) (end : ℕ) (w : Walk) : Type 0 where
 
 -- ---- an element without a fault passed
 -- numbers of faults are not 0
-wrong-shape : shape ≡ done → ⊥
+pub wrong-shape : shape ≡ done → ⊥
 wrong-shape e = omega arith
 
 pub twice : missingOrTwice ≡ done → ⊥
 twice e = omega arith
 
-over-limits : outOfLimits ≡ done → ⊥
+pub over-limits : outOfLimits ≡ done → ⊥
 over-limits e = omega arith
 
 limits-passed : (s : List ℕ) (at : ℕ) → slotframeLimits (leAt 2 s (at + 2)) (getD s (at + 4) 0) (timeslotsFit s (at + 5) (getD s (at + 4) 0) (leAt 2 s (at + 2))) ≡ 0 → SlotframePassed s at
@@ -127,15 +127,15 @@ slotframe-ends s from to seen end h =
 
 -- by its kind
 module _ (s : List ℕ) (from to : ℕ) (seen : Seen) where
-  kind-slotframe : partFault s 27 from to seen ≡ 0 → SlotframePassed s from
+  pub kind-slotframe : partFault s 27 from to seen ≡ 0 → SlotframePassed s from
   unfolding partFault ifEq
   kind-slotframe e = slotframe-passed s from (to - from) (seen .slotframe) e
 
-  kind-timeslot : partFault s 28 from to seen ≡ 0 → TimeslotPassed s from to
+  pub kind-timeslot : partFault s 28 from to seen ≡ 0 → TimeslotPassed s from to
   unfolding partFault ifEq
   kind-timeslot e = timeslot-passed s from to (seen .timeslot) e
 
-  kind-joining : partFault s 258 from to seen ≡ 0 → JoiningPassed s from to
+  pub kind-joining : partFault s 258 from to seen ≡ 0 → JoiningPassed s from to
   unfolding partFault ifEq
   kind-joining e = joining-passed s from to (seen .joining) e
 

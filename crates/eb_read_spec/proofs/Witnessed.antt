@@ -34,11 +34,11 @@ pub some-frame-has-joining-information : SomeFrameHasJoiningInformation
 some-frame-has-joining-information = both-read .1
 
 -- the bytes of a list, as a test that the checker computes
-abbrev small : List ℕ → Bool
+abbrev pub small : List ℕ → Bool
 small [] = true
 small (b ∷ bs) = ltb b 256 && small bs
 
-bytes : (s : List ℕ) → T (small s) → Bytes s
+pub bytes : (s : List ℕ) → T (small s) → Bytes s
 bytes [] t i = lit< tt
 bytes (b ∷ bs) t zero = ltb→lt b 256 (both-left (ltb b 256) (small bs) t)
 bytes (b ∷ bs) t (suc i) = bytes bs (both-right (ltb b 256) (small bs) t) i

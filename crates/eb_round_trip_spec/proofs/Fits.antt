@@ -1,147 +1,160 @@
--- Every record that reading accepts is within the limits of writing. Assumes nothing.
-use Prim.Native.Nat.{ℕ, _+_, _-_, _*_, _/_, _%_, _^_, _<_, _≤_, min}
-use mathlib.Core.Path.{_≡_, refl, subst}
-use mathlib.Core.Bool.{Bool, true, false, cond}
-use mathlib.Core.List.{List}
-use mathlib.Core.Logic.{⊎-elim}
+-- What a frame of the grammar says is within the limits of writing, and needs no more bytes than it was said in: part by part. Assumes nothing.
+use Prim.Native.Nat.{ℕ, zero, suc, _+_, _-_, _*_, _/_, _%_, _^_, _<_, _≤_}
+use mathlib.Core.Path.{_≡_, refl, sym, _∙_, ap}
+use mathlib.Core.Bool.{Bool, true, false}
+use mathlib.Core.List.{List, [], _∷_, _++_}
 use native.Mathlib.Nat.{mod-lt}
 use native.Mathlib.Omega.{arith}
-use borrow.Author.Tests.{lt-ltb, eq-eqb}
-use lib.Dec.{ltb, eqb, lit<}
-use lib.ListN.{length, getD}
-use Rattle.octets_spec.specs.Choice.{ifOn, ifEq}
-use Rattle.octets_spec.specs.Number.{leAt, beAt}
-use Rattle.octets_spec.specs.Counted.{counted}
-use Rattle.octets_spec.proofs.ChoiceLaws.{if-lt, if-eq, if-ne, either-lt, either-eq}
-use Rattle.eb_record_spec.specs.Record.{blankLink, blankBeacon}
-use Rattle.mac_header_spec.specs.declared.SequenceNumber.{SequenceNumber}
-use Rattle.mac_header_spec.specs.declared.Address.the-variants.{Short, Extended}
-use Rattle.eb_record_spec.specs.declared.TimeslotTemplate.{TimeslotTemplate}
-use Rattle.eb_record_spec.specs.declared.JoiningInformation.{JoiningInformation}
-use Rattle.ie_walk_spec.specs.declared.Walk.{Walk}
-use Rattle.mac_header_spec.specs.Fields.{addressLength, macHeaderOf, sequenceOf, addressOf}
-use Rattle.eb_read_spec.specs.Decode.{synchronizationAt, timingAt, templateAt, linkAt, slotframeAt, networkOffset, joiningAt, decoded}
-use Rattle.eb_read_spec.specs.Read.{examined}
-use Rattle.eb_read_spec.specs.Claims.{Bytes}
-use Rattle.eb_read_spec.proofs.Noted.{SlotframePassed, TimeslotPassed, Noted, examined-noted}
-use Rattle.eb_read_spec.proofs.Bounds.{le-below, be-below, fit-below}
-use Rattle.eb_read_spec.proofs.Accepted.{Required, accepted-required, accepted-decoded}
-use Rattle.eb_write_spec.specs.Limits.{allOf, allBelow, sequenceFits, synchronizationFits, templateFits, linkFits, linkUnused, slotframeFits, addressFits, presentFits, absentFits, joiningFits, fits}
+use borrow.Author.Tests.{lt-ltb, eq-eqb, eqb-true, eqb-false}
+use lib.Dec.{lit<, eqb, ltb}
+use lib.ListN.{length, take, drop, replicate, length-append, length-replicate}
+use lib.Seq.{take-at, drop-at}
+use Rattle.octets_spec.specs.Choice.{ifOn, ifLt}
+use Rattle.octets_spec.proofs.ChoiceLaws.{if-lt, either-lt, by-test}
+use Rattle.eb_record_spec.specs.Record.{blankLink}
 use Rattle.eb_record_spec.specs.Form.{sourceFits}
-use Rattle.eb_round_trip_spec.specs.Accepted.{AcceptedFits}
-use Rattle.eb_round_trip_spec.proofs.ListLaws.{also, all-blank, all-counted, all-used, all-unused}
+use Rattle.mac_header_spec.specs.declared.SequenceNumber.{SequenceNumber}
+use Rattle.mac_header_spec.specs.declared.Address.{Address}
+use Rattle.eb_record_spec.specs.declared.TimeslotTemplate.{TimeslotTemplate}
+use Rattle.eb_record_spec.specs.declared.Link.{Link}
+use Rattle.eb_record_spec.specs.declared.Slotframe.{Slotframe}
+use Rattle.eb_record_spec.specs.declared.JoiningInformation.{JoiningInformation}
+use Rattle.eb_write_spec.specs.Frame.{sequenceBytes, sourceBytes, lastWidth, templateSize, flag, joiningSize}
+use Rattle.eb_write_spec.specs.Limits.{allOf, allBelow, sequenceFits, templateFits, linkFits, linkUnused, slotframeFits, addressFits, presentFits, absentFits, joiningFits}
+use Rattle.eb_write_spec.proofs.LengthLaws.{length-le}
+use Rattle.eb_grammar_spec.specs.Row.{le, be, bits}
+use Rattle.eb_grammar_spec.specs.Grammar.{SequenceBytes, numbered, suppressed, SourceBytes, short-source, extended-source, FixedFields, fixed-fields, TimeslotContent, id-alone, timed-25, timed-27, Links, no-links, one-link, SlotframeContent, slotframe, JoiningContent, absent, joining}
+use Rattle.eb_grammar_spec.proofs.Rowed.{total, row-length}
+use Rattle.eb_grammar_spec.proofs.Joined.{nothing}
+use Rattle.eb_round_trip_spec.proofs.ListLaws.{also, all-blank}
+use Rattle.eb_round_trip_spec.proofs.AllBytes.{All, parts, first-byte, behind-byte, below-all, le-small, be-small, Bounded, row-bounded, bounded-take, row-entry, Each, weights}
 
--- absent joining information
-absent-fits : joiningFits (blankBeacon .joining) ≡ true
-unfolding joiningFits absentFits ifOn allBelow allOf
-absent-fits = refl
+-- ---- what stands before the elements
+sequence-fits : (k : ℕ) (xs : List ℕ) (n : SequenceNumber) → SequenceBytes k xs n → All xs → (sequenceFits n ≡ true) × (length xs ≡ length (sequenceBytes n))
+unfolding sequenceFits sequenceBytes
+sequence-fits _ _ _ (numbered n) all = (lt-ltb _ _ (first-byte all), sym (length-le 1 n))
+sequence-fits _ _ _ suppressed all = (refl, refl)
 
--- an address that is there only if P is
-address-fits : (p : Bool) (address : ℕ) → address < 2 ^ 64 → ifOn p (ltb (cond p address 0) (2 ^ 64)) (eqb (cond p address 0) 0) ≡ true
+source-fits : (m : ℕ) (xs : List ℕ) (a : Address) → SourceBytes m xs a → All xs → (sourceFits a ≡ true) × (length xs ≡ length (sourceBytes a))
+unfolding sourceFits sourceBytes
+source-fits _ _ _ (short-source xs e) all = (lt-ltb _ _ (rw e at (le-small xs all)), e ∙ sym (length-le 2 (le xs)))
+source-fits _ _ _ (extended-source xs e) all = (lt-ltb _ _ (rw e at (le-small xs all)), e ∙ sym (length-le 8 (le xs)))
+
+pub record FieldsFit (size : ℕ) (n : SequenceNumber) (p : ℕ) (a : Address) : Type 0 where
+  pub sequence : sequenceFits n ≡ true
+  pub pan : ltb p (2 ^ 16) ≡ true
+  pub source : sourceFits a ≡ true
+  pub long : size ≡ 6 + length (sequenceBytes n) + length (sourceBytes a)
+
+pub fields-fit : (xs : List ℕ) (n : SequenceNumber) (p : ℕ) (a : Address) → FixedFields xs n p a → All xs → FieldsFit (length xs) n p a
+fields-fit _ _ _ _ (fixed-fields l h p q {sequence} {source} c n-says a-says) all =
+    let cut = parts sequence (p ∷ q ∷ 255 ∷ 255 ∷ source) (behind-byte (behind-byte all)) in
+    let pan = parts (p ∷ q ∷ []) (255 ∷ 255 ∷ source) (cut .1) in
+    let n = sequence-fits _ _ _ n-says (cut .0) in
+    let a = source-fits _ _ _ a-says (behind-byte (behind-byte (pan .1))) in
+    record { sequence = n .0; pan = lt-ltb _ _ (le-small (p ∷ q ∷ []) (pan .0)); source = a .0; long = omega (arith, length-append sequence (p ∷ q ∷ 255 ∷ 255 ∷ source), n .1, a .1) }
+
+-- ---- timeslot: a timing of two bytes is written in two
+pub record TemplateFits (size : ℕ) (t : TimeslotTemplate) : Type 0 where
+  pub within : templateFits t ≡ true
+  pub sized : length (t .timings) ≡ 12
+  pub most : templateSize t ≤ size
+
+width-most : (ns : List ℕ) → lastWidth ns ≤ 3
+unfolding lastWidth
+width-most [] = omega arith
+width-most (n ∷ ns) = either-lt (λ (width : ℕ). width ≤ 3) _ _ (width-most ns) (omega arith) _ _
+
+narrow : (n m : ℕ) → n < 256 ^ 2 → m < 256 ^ 2 → lastWidth (n ∷ m ∷ []) ≤ 2
+unfolding lastWidth
+narrow n m h k = let two : 2 ≡ lastWidth (n ∷ m ∷ []) = if-lt _ _ n 65536 h (if-lt _ _ m 65536 k refl) in omega (arith, two)
+
+timed-fits : (w : ℕ) → ((n : ℕ) → n < 256 ^ w → n < 2 ^ 24) → ((n m : ℕ) → n < 256 ^ w → m < 256 ^ w → lastWidth (n ∷ m ∷ []) ≤ w) → (id : ℕ) (ts : List ℕ) → id < 256 → Bounded (replicate 10 2 ++ (w ∷ w ∷ [])) ts
+    → TemplateFits (21 + 2 * w) (record { id = id; timed = true; timings = ts })
+unfolding templateFits templateSize ifOn allBelow allOf
+timed-fits w small most id ts byte b =
+    let first = bounded-take 2 (w ∷ w ∷ []) 10 ts b in
+    let n = first .1 .0 in
+    let m = first .1 .4 .0 in
+    let two : drop 10 ts ≡ n ∷ m ∷ [] = first .1 .2 ∙ ap (λ (l : List ℕ). n ∷ l) (first .1 .4 .2 ∙ ap (λ (l : List ℕ). m ∷ l) (first .1 .4 .4)) in
+    record {
+      within = also (lt-ltb _ _ byte) (also (first .0) (rw two (also (lt-ltb _ _ (small n (first .1 .3))) (also (lt-ltb _ _ (small m (first .1 .4 .3))) refl))));
+      sized = first .2 ∙ rw two (omega arith);
+      most = rw two (omega (arith, most n m (first .1 .3) (first .1 .4 .3)));
+    }
+
+pub template-fits : (c : List ℕ) (t : TimeslotTemplate) → TimeslotContent c t → All c → TemplateFits (length c) t
+unfolding templateFits templateSize ifOn allBelow allOf total
+template-fits _ _ id-alone all = record { within = refl; sized = refl; most = omega arith }
+template-fits _ _ (timed-25 id {bytes} {timings} row) all =
+    rw (row-length [] _ bytes _ row) (timed-fits 2 (λ n h. omega (arith, h)) narrow id timings (first-byte all) (row-bounded _ _ _ row (behind-byte all)))
+template-fits _ _ (timed-27 id {bytes} {timings} row) all =
+    rw (row-length [] _ bytes _ row) (timed-fits 3 (λ n h. h) (λ n m h k. width-most (n ∷ m ∷ [])) id timings (first-byte all) (row-bounded _ _ _ row (behind-byte all)))
+
+-- ---- slotframe and link
+links-fit : (size : ℕ) (xs : List ℕ) (ls : List Link) → Links size xs ls → All xs → (allOf (linkFits size) ls ≡ true) × (length xs ≡ 5 * length ls)
+unfolding allOf linkFits total
+links-fit size _ _ no-links all = (refl, refl)
+links-fit size _ _ (one-link timeslot offset options {bytes} {rest} {links} row below lks) all =
+    let cut = parts bytes rest all in
+    let go = links-fit size rest links lks (cut .1) in
+    let in-row = row-entry _ _ _ row (cut .0) in
+    (also (also (lt-ltb _ _ below) (also (lt-ltb _ _ (in-row 1)) (lt-ltb _ _ (in-row 2)))) (go .0), length-append bytes rest ∙ omega (arith, row-length [] _ bytes _ row, go .1))
+
+pub record SlotframeFits (size : ℕ) (f : Slotframe) : Type 0 where
+  pub within : slotframeFits f ≡ true
+  pub sized : length (f .links) ≡ 16
+  pub long : size ≡ 5 + 5 * f .count
+
+pub slotframe-fits : (c : List ℕ) (f : Slotframe) → SlotframeContent c f → All c → SlotframeFits (length c) f
+unfolding slotframeFits linkUnused total
+slotframe-fits _ _ (slotframe handle size {head} {body} links row lks some-size some few) all =
+    let cut = parts head body all in
+    let in-row = row-entry _ _ _ row (cut .0) in
+    let fit = links-fit size body links lks (cut .1) in
+    let blank : List Link = replicate (16 - length links) blankLink in
+    let short : length links < 17 = omega arith in
+    let used : allOf (linkFits size) (take (length links) (links ++ blank)) ≡ true = rw (take-at links blank (length links) refl) (fit .0) in
+    let unused : allOf linkUnused (drop (length links) (links ++ blank)) ≡ true = rw (drop-at links blank (length links) refl) (all-blank linkUnused (16 - length links) blankLink refl) in
+    record {
+      within = also (lt-ltb _ _ (in-row 1)) (also (lt-ltb _ _ some-size) (also (lt-ltb _ _ (in-row 2)) (also (lt-ltb _ _ some) (also (lt-ltb _ _ short)
+          (also used unused)))));
+      sized = length-append links blank ∙ omega (arith, length-replicate (16 - length links) blankLink, few);
+      long = length-append head body ∙ omega (arith, row-length [] _ head _ row, fit .1);
+    }
+
+-- ---- joining information
+pub record JoiningFits (cs : List (List ℕ)) (j : JoiningInformation) : Type 0 where
+  pub within : joiningFits j ≡ true
+  pub sized : length (j .network) ≡ 16
+  pub most : ifOn (j .present) (2 + joiningSize j) 0 ≤ weights 3 cs
+
+flag-most : (bit : ℕ) → flag (eqb bit 1) ≤ bit
 unfolding ifOn
-address-fits true address small = lt-ltb address (2 ^ 64) small
-address-fits false address small = refl
+flag-most bit = by-test (eqb bit 1) (λ t. rw t (omega (arith, eqb-true bit 1 t))) (λ t. rw t (omega arith))
 
-module _ (s : List ℕ) (bytes : Bytes s) where
-  -- a byte, and a number of some bytes
-  byte-fits : (at : ℕ) → ltb (getD s at 0) 256 ≡ true
-  byte-fits at = lt-ltb _ _ (bytes at)
+address-fits : (bit : ℕ) (xs : List ℕ) → bit < 2 → length xs ≡ 8 * bit → All xs → ifOn (eqb bit 1) (ltb (be xs) (2 ^ 64)) (eqb (be xs) 0) ≡ true
+unfolding ifOn
+address-fits bit xs two e all =
+    by-test (eqb bit 1)
+    (λ t. let eight : length xs ≡ 8 = omega (arith, e, eqb-true bit 1 t) in rw t (lt-ltb _ _ (rw eight at (be-small xs all))))
+    (λ t. let not : bit ≡ 1 → ⊥ = eqb-false bit 1 t in rw t (eq-eqb _ _ (nothing xs (omega (arith, e, not, two)))))
 
-  two-fit : (at : ℕ) → ltb (leAt 2 s at) (2 ^ 16) ≡ true
-  two-fit at = lt-ltb _ _ (le-below s bytes 2 at)
-
-  -- ---- what stands before the elements
-  sequence-fits : sequenceFits (sequenceOf (macHeaderOf s)) ≡ true
-  unfolding sequenceOf sequenceFits macHeaderOf
-  sequence-fits = either-eq (λ (q : SequenceNumber). sequenceFits q ≡ true) _ _ (either-eq (λ (n : ℕ). ltb n 256 ≡ true) _ _ (byte-fits 2) refl _ _) refl _ _
-
-  source-fits : (mode at : ℕ) → sourceFits (addressOf mode (leAt (addressLength mode) s at)) ≡ true
-  unfolding addressOf addressLength sourceFits ifEq
-  source-fits mode at = of (eqb mode 3)
-    where
-      of : (t : Bool) → sourceFits (cond t (Extended (leAt (cond t 8 2) s at)) (Short (leAt (cond t 8 2) s at))) ≡ true
-      of true = lt-ltb _ _ (le-below s bytes 8 at)
-      of false = two-fit at
-
-  synchronization-fits : (at : ℕ) → synchronizationFits (synchronizationAt s at) ≡ true
-  unfolding synchronizationAt synchronizationFits
-  synchronization-fits at = also (lt-ltb _ _ (le-below s bytes 5 at)) (byte-fits (at + 5))
-
-  -- ---- timeslot
-  -- the first ten timings have 2 bytes, and all have at most 3
-  first-fits : (at width k : ℕ) → k < 10 → ltb (timingAt s at width k) (2 ^ 16) ≡ true
-  unfolding timingAt
-  first-fits at width k h = let e : leAt 2 s (at + (1 + 2 * k)) ≡ timingAt s at width k = if-lt _ _ k 10 h refl in rw (← e) (two-fit _)
-
-  last-fits : (at length k : ℕ) → ltb (timingAt s at (ifEq length 27 3 2) k) (2 ^ 24) ≡ true
-  unfolding timingAt
-  last-fits at length k =
-      let P : ℕ → Type 0 = λ n. n < 2 ^ 24 in
-      let few : (offset : ℕ) → leAt 2 s offset < 2 ^ 24 = λ offset. omega (arith, le-below s bytes 2 offset) in
-      let wide : (offset : ℕ) → leAt (ifEq length 27 3 2) s offset < 2 ^ 24 =
-      λ offset. either-eq (λ (width : ℕ). leAt width s offset < 2 ^ 24) _ _ (le-below s bytes 3 offset) (few offset) _ _ in
-      lt-ltb _ _ (either-lt P _ _ (few _) (either-eq P _ _ (wide _) (wide _) _ _) _ _)
-
-  timed-fits : (at length : ℕ) → (length ≡ 1 → ⊥) → templateFits (templateAt s at length) ≡ true
-  unfolding templateAt templateFits ifOn allBelow allOf counted
-  timed-fits at length long =
-      let f : ℕ → ℕ = timingAt s at (ifEq length 27 3 2) in
-      subst (λ (t : TimeslotTemplate). templateFits t ≡ true) (if-ne _ _ length 1 long refl)
-      (also (byte-fits at) (also (all-counted (λ (n : ℕ). ltb n (2 ^ 16)) f 10 (λ k h. first-fits at _ k h)) (also (last-fits at length 10) (also (last-fits at length 11) refl))))
-
-  alone-fits : (at length : ℕ) → length ≡ 1 → getD s at 0 ≡ 0 → templateFits (templateAt s at length) ≡ true
-  unfolding templateAt templateFits ifOn allBelow
-  alone-fits at length one zero-id =
-      subst (λ (t : TimeslotTemplate). templateFits t ≡ true) (if-eq _ _ length 1 one refl)
-      (also (byte-fits at) (also (eq-eqb _ _ zero-id) (all-blank (λ (n : ℕ). ltb n 1) 12 0 refl)))
-
-  template-fits : (at to : ℕ) → TimeslotPassed s at to → templateFits (templateAt s at (to - at)) ≡ true
-  template-fits at to h =
-      ⊎-elim (λ (e : to - at ≡ 25). timed-fits at (to - at) (λ (f : to - at ≡ 1). omega arith))
-      (λ k. ⊎-elim (λ (e : to - at ≡ 27). timed-fits at (to - at) (λ (f : to - at ≡ 1). omega arith)) (λ e. alone-fits at (to - at) (e .0) (e .1)) k) h
-
-  -- ---- slotframe and link
-  link-fits : (at i : ℕ) → SlotframePassed s at → i < getD s (at + 4) 0 → linkFits (leAt 2 s (at + 2)) (linkAt s at i) ≡ true
-  unfolding linkFits linkAt
-  link-fits at i h lt =
-      let offset : at + (5 + 5 * i) ≡ at + 5 + 5 * i = omega arith in
-      let below : leAt 2 s (at + (5 + 5 * i)) < leAt 2 s (at + 2) = rw offset (fit-below s _ _ (at + 5) i (h .below) lt) in
-      also (lt-ltb _ _ below) (also (two-fit _) (byte-fits _))
-
-  slotframe-fits : (at : ℕ) → SlotframePassed s at → slotframeFits (slotframeAt s at) ≡ true
-  unfolding slotframeFits slotframeAt linkUnused
-  slotframe-fits at h =
-      let count : ℕ = getD s (at + 4) 0 in
-      let size : ℕ = leAt 2 s (at + 2) in
-      let few : getD s (at + 4) 0 < 17 = omega (arith, h .few) in
-      also (byte-fits (at + 1)) (also (lt-ltb _ _ (h .sized)) (also (two-fit (at + 2)) (also (lt-ltb _ _ (h .some)) (also (lt-ltb _ _ few)
-      (also (all-used (linkFits size) (linkAt s at) blankLink 16 count (h .few) (λ i lt. link-fits at i h lt))
-      (all-unused linkUnused (linkAt s at) blankLink 16 count (h .few) refl))))))
-
-  -- ---- joining information
-  joining-fits : (at to : ℕ) → joiningFits (joiningAt s at to) ≡ true
-  unfolding joiningFits joiningAt presentFits addressFits allBelow ifOn ifEq
-  joining-fits at to =
-      let word : ℕ = beAt 4 s at in
-      let before : ℕ = networkOffset s at in
-      let length : ℕ = min (to - at - before) 16 in
-      let within : min (to - at - before) 16 ≤ 16 = omega arith in
-      let short : min (to - at - before) 16 < 17 = omega arith in
-      let network : ℕ → ℕ = λ i. getD s (at + (before + i)) 0 in
-      either-eq (λ (j : JoiningInformation). joiningFits j ≡ true) _ _ absent-fits
-      (also (lt-ltb _ _ (mod-lt (word / 2 ^ 20) {m = 128} (lit< tt))) (also (lt-ltb _ _ (mod-lt (word / 2 ^ 8) {m = 4096} (lit< tt))) (also (lt-ltb _ _ (mod-lt word {m = 256} (lit< tt)))
-      (also (address-fits (eqb (word / 2 ^ 30 % 2) 1) _ (be-below s bytes 8 (at + 4)))
-      (also (lt-ltb _ _ short)
-      (also (all-used (λ (n : ℕ). ltb n 256) network 0 16 length within (λ i lt. byte-fits _))
-      (all-unused (λ (n : ℕ). ltb n 1) network 0 16 length within refl)))))))
-      at 0
-
-  decoded-fits : (w : Walk) → Noted s (length s) w → Required w → fits (decoded s w) ≡ true
-  unfolding fits decoded macHeaderOf
-  decoded-fits w noted required =
-      also sequence-fits (also (two-fit _) (also (source-fits _ _) (also (synchronization-fits (w .synchronization))
-      (also (template-fits (w .timeslot) (w .timeslotend) (noted .timeslot (required .timeslot))) (also (byte-fits (w .hopping))
-      (also (slotframe-fits (w .slotframe) (noted .slotframe (required .slotframe))) (joining-fits (w .joining) (w .joiningend))))))))
-
-pub accepted-fits : AcceptedFits
-accepted-fits s bytes e = rw (← accepted-decoded s e) (decoded-fits s bytes (examined s .walk) (examined-noted s) (accepted-required s e))
+pub joining-fits : (cs : List (List ℕ)) (j : JoiningInformation) → JoiningContent cs j → Each cs → JoiningFits cs j
+unfolding joiningFits presentFits absentFits addressFits joiningSize ifOn allBelow allOf
+joining-fits _ _ absent all = record { within = refl; sized = refl; most = omega arith }
+joining-fits _ _ (joining word address network four eight few) (all, _) =
+    let cut = parts word (address ++ network) all in
+    let cut′ = parts address network (cut .1) in
+    let n : ℕ = be word in
+    let blank : List ℕ = replicate (16 - length network) 0 in
+    let short : length network < 17 = omega arith in
+    let used : allBelow 256 (take (length network) (network ++ blank)) ≡ true = rw (take-at network blank (length network) refl) (below-all network (cut′ .1)) in
+    let unused : allBelow 1 (drop (length network) (network ++ blank)) ≡ true = rw (drop-at network blank (length network) refl) (all-blank (λ (k : ℕ). ltb k 1) (16 - length network) 0 refl) in
+    record {
+      within = also (lt-ltb _ _ (mod-lt (n / 2 ^ 20) {m = 128} (lit< tt))) (also (lt-ltb _ _ (mod-lt (n / 2 ^ 8) {m = 4096} (lit< tt))) (also (lt-ltb _ _ (mod-lt (n / 1) {m = 256} (lit< tt)))
+          (also (address-fits (bits 30 1 n) address (mod-lt (n / 2 ^ 30) {m = 2} (lit< tt)) eight (cut′ .0)) (also (lt-ltb _ _ short)
+          (also used unused)))));
+      sized = length-append network blank ∙ omega (arith, length-replicate {A = ℕ} (16 - length network) 0, few);
+      most = omega (arith, flag-most (bits 30 1 n), four, eight, length-append word (address ++ network), length-append address network);
+    }

@@ -24,8 +24,7 @@ use Rattle.eb_read_spec.proofs.Witnessed.{shortest-is-read, shortest-done, shor
 use Rattle.eb_round_trip_spec.specs.ReadBack.{Sized, FormsReadBack}
 use Rattle.eb_round_trip_spec.specs.Accepted.{AcceptedReadsBack, ReadFormsAreWritten, ShortestFormIsWritten}
 use Rattle.eb_round_trip_spec.proofs.ReadsBack.{frames-read-back}
-use Rattle.eb_round_trip_spec.proofs.Fits.{accepted-fits}
-use Rattle.eb_round_trip_spec.proofs.NotLonger.{read-sized, written-is-not-longer, written-is-short}
+use Rattle.eb_round_trip_spec.proofs.NotLonger.{accepted-fits, read-sized, written-is-not-longer, written-is-short}
 use Rattle.eb_round_trip_spec.proofs.Witness.{shortest-is-written-back}
 
 module _ (beacon : Beacon) (within : fits beacon ≡ true) where

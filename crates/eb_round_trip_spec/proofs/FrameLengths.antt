@@ -17,8 +17,7 @@ use Rattle.eb_write_spec.specs.Limits.{presentFits, absentFits, joiningFits}
 use Rattle.eb_write_spec.proofs.LengthLaws.{short-network, slotframe-on, joining-on, length-frame}
 use Rattle.eb_round_trip_spec.specs.ReadBack.{LengthIsTheFormula, LengthsFrom38To177}
 use Rattle.eb_round_trip_spec.proofs.Fitting.{on-on, count-within}
-use Rattle.eb_round_trip_spec.proofs.TimeslotPart.{template-small}
-use Rattle.eb_round_trip_spec.proofs.JoiningPart.{flag-small}
+use Rattle.eb_round_trip_spec.proofs.OfTheGrammar.{template-small, flag-small}
 
 pub length-is-the-formula : LengthIsTheFormula
 length-is-the-formula b sized within = length-frame b (sized .timings) (sized .links) (sized .network) within

@@ -1,168 +1,202 @@
--- What reading accepts is written in at most as many bytes as were received: each part of the record needs at most the bytes that it
--- was read from. Assumes nothing.
-use Prim.Native.Nat.{ℕ, _+_, _-_, _*_, _/_, _%_, _^_, _<_, _≤_}
-use mathlib.Core.Path.{_≡_, refl, sym}
-use mathlib.Core.Bool.{Bool, true, false}
-use mathlib.Core.List.{List, [], _∷_}
-use mathlib.Core.Logic.{⊎-elim}
+-- Every record that a frame of the grammar says can be written, in at most as many bytes: the elements of a payload list take no more bytes
+-- than it has, and each is written in at most the bytes that it was read from. Assumes nothing.
+use Prim.Native.Nat.{ℕ, suc, _+_, _*_, _^_, _<_, _≤_, min}
+use mathlib.Core.Path.{_≡_, refl, sym, _∙_, ap}
+use mathlib.Core.Bool.{true, false}
+use mathlib.Core.List.{List, [], _∷_, _++_}
 use native.Mathlib.Omega.{arith}
+use borrow.Author.Tests.{lt-ltb, eqb-true}
 use lib.Dec.{eqb}
-use lib.ListN.{length, getD, drop, length-replicate}
-use Rattle.octets_spec.specs.Choice.{ifOn, ifEq}
-use Rattle.octets_spec.specs.Number.{leAt, beAt}
-use Rattle.octets_spec.specs.Counted.{counted}
-use Rattle.octets_spec.proofs.ChoiceLaws.{if-lt, if-ne, by-lt, either-lt, either-eq}
-use Rattle.octets_spec.proofs.CountedLaws.{length-counted}
-use Rattle.eb_record_spec.specs.Record.{blankLink}
-use Rattle.mac_header_spec.specs.declared.SequenceNumber.the-variants.{Absent, Number}
-use Rattle.mac_header_spec.specs.declared.Address.the-variants.{Short, Extended}
-use Rattle.eb_record_spec.specs.declared.TimeslotTemplate.{TimeslotTemplate}
-use Rattle.eb_record_spec.specs.declared.JoiningInformation.{JoiningInformation}
-use Rattle.mac_header_spec.specs.Fields.{addressLength, offsetsOf, macHeaderOf, sequenceOf, addressOf}
-use Rattle.mac_header_spec.specs.declared.MacHeader.{MacHeader}
-use Rattle.ie_walk_spec.specs.declared.Walk.{Walk}
-use Rattle.eb_read_spec.specs.Decode.{timingAt, templateAt, slotframeAt, networkOffset, joiningAt, decoded}
-use Rattle.eb_read_spec.specs.Read.{examined, readFrame}
+use lib.ListN.{length, getD, length-append}
+use Rattle.octets_spec.specs.Choice.{ifLt, ifEq}
+use Rattle.octets_spec.proofs.ChoiceLaws.{if-lt, if-ge, by-test, by-lt, either-eq}
+use Rattle.eb_record_spec.specs.declared.Beacon.{Beacon}
 use Rattle.eb_read_spec.specs.Claims.{Bytes}
-use Rattle.eb_read_spec.proofs.NetworkRecord.{top-bits}
+use Rattle.eb_read_spec.specs.Read.{readFrame}
 use Rattle.eb_read_spec.proofs.Each.{each-eq}
-use Rattle.eb_read_spec.proofs.Bounds.{le-below, be-below}
-use Rattle.eb_read_spec.proofs.Claimed.{one-is-the-length}
-use Rattle.eb_read_spec.proofs.Noted.{TimeslotPassed, JoiningPassed, Noted, examined-noted}
-use Rattle.eb_read_spec.proofs.Accepted.{Required, accepted-required, accepted-decoded}
-use Rattle.eb_write_spec.specs.Frame.{sequenceBytes, sourceBytes, lastWidth, templateSize, groupSize, flag, joiningSize, frameOf, frameLength}
-use Rattle.eb_write_spec.specs.Limits.{fits}
-use Rattle.eb_write_spec.proofs.LengthLaws.{length-le, length-frame}
+use Rattle.eb_write_spec.specs.Frame.{groupSize, frameOf, frameLength}
+use Rattle.eb_write_spec.specs.Limits.{synchronizationFits, fits}
+use Rattle.eb_write_spec.proofs.LengthLaws.{length-frame}
+use Rattle.eb_grammar_spec.specs.Grammar.{Element, SubDescriptor, short-id, long-id, SubElements, group-end, sub-element, Group, mlme, ietf-element, other-group, PayloadElements, bytes-end, payload-end, payload-element, contents, Accepts}
+use Rattle.eb_grammar_spec.proofs.Agreed.{sound}
+use Rattle.eb_grammar_spec.proofs.Rowed.{total, row-length}
 use Rattle.eb_round_trip_spec.specs.ReadBack.{Sized}
-use Rattle.eb_round_trip_spec.specs.Accepted.{WrittenIsNotLonger, WrittenIsShort}
-use Rattle.eb_round_trip_spec.proofs.ListLaws.{length-padded}
-use Rattle.eb_round_trip_spec.proofs.Counts.{bytesAt, inGroups, inJoining, Counts, examined-count}
-use Rattle.eb_round_trip_spec.proofs.Fits.{accepted-fits}
+use Rattle.eb_round_trip_spec.specs.Accepted.{AcceptedFits, WrittenIsNotLonger, WrittenIsShort}
+use Rattle.eb_round_trip_spec.proofs.ListLaws.{also}
+use Rattle.eb_round_trip_spec.proofs.AllBytes.{All, all-of, parts, first-byte, behind-byte, row-entry, Each, weights}
+use Rattle.eb_round_trip_spec.proofs.Fits.{FieldsFit, fields-fit, TemplateFits, template-fits, SlotframeFits, slotframe-fits, JoiningFits, joining-fits}
 
--- ---- laws of choices
--- an element at an offset counts
-there : (offset n : ℕ) → (offset ≡ 0 → ⊥) → bytesAt offset n ≡ n
-unfolding bytesAt
-there offset n some = sym (if-ne 0 n offset 0 some refl)
+-- ---- the bytes of sub-elements, and of IETF elements, with their descriptors and subtypes
+abbrev inGroups : List Element → ℕ
+inGroups [] = 0
+inGroups (x ∷ f) = ifLt (x .kind) 256 (2 + length (x .content)) 0 + inGroups f
 
-flag-most : (bit : ℕ) → flag (eqb bit 1) ≤ bit
-unfolding ifEq ifOn
-flag-most bit = each-eq (λ (n : ℕ). n ≤ bit) 1 0 bit 1 (λ e. omega arith) (λ n. omega arith)
+abbrev inIetf : List Element → ℕ
+inIetf [] = 0
+inIetf (x ∷ f) = ifLt (x .kind) 256 0 (3 + length (x .content)) + inIetf f
 
--- ---- what stands before the elements
-sequence-on : (test : Bool) (n : ℕ) → ifOn test 3 2 ≡ 2 + length (sequenceBytes (ifOn test (Number n) Absent))
-unfolding ifOn sequenceBytes
-sequence-on true n = omega (arith, length-le 1 n)
-sequence-on false n = refl
+-- every content is bytes
+abbrev AllIn : List Element → Type 0
+AllIn [] = Unit
+AllIn (x ∷ f) = All (x .content) × AllIn f
 
-source-on : (test : Bool) (n : ℕ) → ifOn test 8 2 ≡ length (sourceBytes (ifOn test (Extended n) (Short n)))
-unfolding ifOn sourceBytes
-source-on true n = sym (length-le 8 n)
-source-on false n = sym (length-le 2 n)
+-- of both parts of a list
+append-counts : (f g : List Element) → (inGroups (f ++ g) ≡ inGroups f + inGroups g) × (inIetf (f ++ g) ≡ inIetf f + inIetf g) × (AllIn f → AllIn g → AllIn (f ++ g))
+append-counts [] g = (omega arith, omega arith, λ _ all. all)
+append-counts (x ∷ f) g = let go = append-counts f g in (omega (arith, go .0), omega (arith, go .1), λ a all. (a .0, go .2 (a .1) all))
 
-sequence-offset : (header : MacHeader) → ifEq (header .control .suppressed) 0 3 2 ≡ 2 + length (sequenceBytes (sequenceOf header))
-unfolding sequenceOf ifEq ifOn
-sequence-offset header = sequence-on (eqb (header .control .suppressed) 0) (header .sequence)
+short-kind : (a b n k : ℕ) → SubDescriptor a b n k → k < 256
+short-kind a b n _ (short-id id d) = omega (arith, d .id-fits)
+short-kind a b n _ (long-id id d) = omega (arith, d .id-fits)
 
-source-offset : (mode n : ℕ) → addressLength mode ≡ length (sourceBytes (addressOf mode n))
-unfolding addressLength addressOf ifEq ifOn
-source-offset mode n = source-on (eqb mode 3) n
+-- what a list found: that it takes its bytes, and that it is bytes
+record Takes (f : List Element) (groups ietf : ℕ) : Type 0 where
+  in-groups : inGroups f ≡ groups
+  in-ietf : inIetf f ≡ ietf
+  all : AllIn f
 
-destination-offset : (mode : ℕ) → 2 ≤ addressLength mode
-unfolding addressLength
-destination-offset mode = either-eq (λ (n : ℕ). 2 ≤ n) _ _ (omega arith) (omega arith) _ _
+subs-take : (xs : List ℕ) (f : List Element) → SubElements xs f → All xs → Takes f (length xs) 0
+subs-take _ _ group-end all = record { in-groups = refl; in-ietf = refl; all = tt }
+subs-take _ _ (sub-element a b k c {rest} {found} d more) all =
+    let cut = parts c rest (behind-byte (behind-byte all)) in
+    let go = subs-take rest found more (cut .1) in
+    let here : 2 + length c ≡ ifLt k 256 (2 + length c) 0 = if-lt _ _ k 256 (short-kind a b _ k d) refl in
+    let nothing : 0 ≡ ifLt k 256 0 (3 + length c) = if-lt _ _ k 256 (short-kind a b _ k d) refl in
+    record { in-groups = omega (arith, here, go .in-groups, length-append c rest); in-ietf = omega (arith, nothing, go .in-ietf); all = (cut .0, go .all) }
 
-mac-header-least : (s : List ℕ) → 6 + length (sequenceBytes (sequenceOf (macHeaderOf s))) + length (sourceBytes (addressOf (macHeaderOf s .control .source) (macHeaderOf s .source))) ≤ macHeaderOf s .elements
-unfolding macHeaderOf offsetsOf
-mac-header-least s =
-    let header = macHeaderOf s in
-    omega (arith, sequence-offset header, destination-offset (header .control .destination), source-offset (header .control .source) (header .source))
+group-takes : (n : ℕ) (c : List ℕ) (f : List Element) → Group n c f → All c → (inGroups f + min (inGroups f) 2 + inIetf f ≤ 2 + length c) × AllIn f
+group-takes _ _ _ (mlme {content} {inside} subs) all = let t = subs-take content inside subs all in (omega (arith, t .in-groups, t .in-ietf), t .all)
+group-takes _ _ _ (ietf-element subtype c) all =
+    let none : 0 ≡ ifLt (256 + subtype) 256 (2 + length c) 0 = if-ge _ _ (256 + subtype) 256 (omega arith) refl in
+    let here : 3 + length c ≡ ifLt (256 + subtype) 256 0 (3 + length c) = if-ge _ _ (256 + subtype) 256 (omega arith) refl in
+    (omega (arith, none, here), (behind-byte all, tt))
+group-takes _ _ _ (other-group not-1 not-5) all = (omega arith, tt)
 
--- ---- timeslot: a timing of two bytes is written in two
-narrow : (a b : ℕ) → a < 65536 → b < 65536 → lastWidth (a ∷ b ∷ []) ≡ 2
-unfolding lastWidth
-narrow a b h k = sym (if-lt _ _ a 65536 h (if-lt _ _ b 65536 k refl))
+payload-takes : (xs : List ℕ) (f : List Element) → PayloadElements xs f → All xs → (inGroups f + min (inGroups f) 2 + inIetf f ≤ length xs) × AllIn f
+payload-takes _ _ bytes-end all = (omega arith, tt)
+payload-takes _ _ (payload-end a b ignored d) all = (omega arith, tt)
+payload-takes _ _ (payload-element a b n c {rest} {inside} {found} d not-15 holds more) all =
+    let cut = parts c rest (behind-byte (behind-byte all)) in
+    let here = group-takes n c inside holds (cut .0) in
+    let go = payload-takes rest found more (cut .1) in
+    let sum = append-counts inside found in
+    (omega (arith, here .0, go .0, sum .0, sum .1, length-append c rest), sum .2 (here .1) (go .1))
 
-width-most : (ns : List ℕ) → lastWidth ns ≤ 3
-unfolding lastWidth
-width-most [] = omega arith
-width-most (n ∷ ns) = either-lt (λ (width : ℕ). width ≤ 3) _ _ (width-most ns) (omega arith) _ _
+-- ---- the contents of a kind
+contents-each : (k : ℕ) (f : List Element) → AllIn f → Each (contents k f)
+unfolding contents ifEq
+contents-each k [] all = tt
+contents-each k (x ∷ f) all = by-test (eqb (x .kind) k) (λ t. rw t (all .0, contents-each k f (all .1))) (λ t. rw t (contents-each k f (all .1)))
 
-module _ (s : List ℕ) (bytes : Bytes s) where
-  two-bytes : (at k : ℕ) → timingAt s at 2 k < 65536
-  unfolding timingAt
-  two-bytes at k =
-      let P : ℕ → Type 0 = λ n. n < 65536 in
-      either-lt P _ _ (le-below s bytes 2 _) (either-eq P _ _ (le-below s bytes 2 _) (le-below s bytes 2 _) _ _) _ _
+weights-step : (over k : ℕ) (x : Element) (f : List Element) → weights over (contents k (x ∷ f)) ≡ ifEq (x .kind) k (over + length (x .content)) 0 + weights over (contents k f)
+unfolding contents ifEq
+weights-step over k x f = by-test (eqb (x .kind) k) (λ t. rw t (omega arith)) (λ t. rw t (omega arith))
 
-  template-alone : (at n : ℕ) → n ≡ 1 → templateSize (templateAt s at n) ≤ n
-  unfolding templateSize templateAt ifOn ifEq
-  template-alone at n e = rw e (omega arith)
+-- an element is of at most one of the four kinds, and is then a sub-element
+one-kind : (kind size : ℕ) → ifEq kind 26 size 0 + ifEq kind 28 size 0 + ifEq kind 137 size 0 + ifEq kind 27 size 0 ≤ ifLt kind 256 size 0
+unfolding ifEq ifLt
+one-kind kind size =
+    each-eq (λ (a : ℕ). a + ifEq kind 28 size 0 + ifEq kind 137 size 0 + ifEq kind 27 size 0 ≤ ifLt kind 256 size 0) _ _ kind 26 (λ e. rw e (omega arith))
+    (λ a. each-eq (λ (b : ℕ). 0 + b + ifEq kind 137 size 0 + ifEq kind 27 size 0 ≤ ifLt kind 256 size 0) _ _ kind 28 (λ e. rw e (omega arith))
+    (λ b. each-eq (λ (c : ℕ). 0 + 0 + c + ifEq kind 27 size 0 ≤ ifLt kind 256 size 0) _ _ kind 137 (λ e. rw e (omega arith))
+    (λ c. each-eq (λ (d : ℕ). 0 + 0 + 0 + d ≤ ifLt kind 256 size 0) _ _ kind 27 (λ e. rw e (omega arith)) (λ d. omega arith))))
 
-  template-short : (at n : ℕ) → n ≡ 25 → templateSize (templateAt s at n) ≤ n
-  unfolding templateSize templateAt ifOn ifEq counted
-  template-short at n e = rw e (omega (arith, narrow _ _ (two-bytes at 10) (two-bytes at 11)))
+joining-kind : (kind size : ℕ) → ifEq kind 258 size 0 ≤ ifLt kind 256 0 size
+unfolding ifEq ifLt
+joining-kind kind size = each-eq (λ (a : ℕ). a ≤ ifLt kind 256 0 size) _ _ kind 258 (λ e. rw e (omega arith)) (λ n. omega arith)
 
-  template-long : (at n : ℕ) → n ≡ 27 → templateSize (templateAt s at n) ≤ n
-  unfolding templateSize templateAt ifOn ifEq
-  template-long at n e = rw e (omega (arith, width-most (drop 10 (counted (timingAt s at 3) 12))))
+four-kinds : (f : List Element) → weights 2 (contents 26 f) + weights 2 (contents 28 f) + weights 2 (contents 137 f) + weights 2 (contents 27 f) ≤ inGroups f
+unfolding contents
+four-kinds [] = omega arith
+four-kinds (x ∷ f) = omega (arith, weights-step 2 26 x f, weights-step 2 28 x f, weights-step 2 137 x f, weights-step 2 27 x f, one-kind (x .kind) (2 + length (x .content)), four-kinds f)
 
-  template-most : (at to : ℕ) → TimeslotPassed s at to → templateSize (templateAt s at (to - at)) ≤ to - at
-  template-most at to h =
-      ⊎-elim (λ (e : to - at ≡ 25). template-short at (to - at) e)
-      (λ k. ⊎-elim (λ (e : to - at ≡ 27). template-long at (to - at) e) (λ e. template-alone at (to - at) (e .0)) k) h
-
-  -- ---- joining information
-  joining-most : (at to : ℕ) → ((at ≡ 0 → ⊥) → JoiningPassed s at to) → ifOn (joiningAt s at to .present) (2 + joiningSize (joiningAt s at to)) 0 ≤ bytesAt at (3 + (to - at))
-  unfolding joiningAt joiningSize ifOn networkOffset
-  joining-most at to h =
-      each-eq (λ (j : JoiningInformation). ifOn (j .present) (2 + joiningSize j) 0 ≤ bytesAt at (3 + (to - at))) _ _ at 0 (λ none. omega arith)
-      (λ some.
-      let p : ℕ = beAt 4 s at / 2 ^ 30 % 2 in
-      let same : p ≡ getD s at 0 / 64 % 2 = rw (top-bits s bytes at) in
-      omega (arith, there at (3 + (to - at)) some, same, h some .least, flag-most p))
+joining-weight : (f : List Element) → weights 3 (contents 258 f) ≤ inIetf f
+unfolding contents
+joining-weight [] = omega arith
+joining-weight (x ∷ f) = omega (arith, weights-step 3 258 x f, joining-kind (x .kind) (3 + length (x .content)), joining-weight f)
 
 -- ---- the frame
-counted-all : (s : List ℕ) (w : Walk) → Required w → inGroups s w ≡ 8 + (2 + (w .timeslotend - w .timeslot)) + 3 + (7 + 5 * getD s (w .slotframe + 4) 0)
-unfolding inGroups
-counted-all s w required = rw (there _ _ (required .synchronization), there _ _ (required .timeslot), there _ _ (required .hopping), there _ _ (required .slotframe))
+module _ (s : List ℕ) (b : Beacon) (bytes : Bytes s) (a : Accepts s b) where
+  cut : All (a .fields) × All (a .header ++ (a .low ∷ a .high ∷ a .payload))
+  cut = parts (a .fields) _ (all-of _ (rw (a .stands) at bytes))
 
-module _ (s : List ℕ) (bytes : Bytes s) (w : Walk) (noted : Noted s (length s) w) (required : Required w) where
-  formula-most : Counts s (macHeaderOf s .elements + 2) w (length s) → frameLength (decoded s w) ≤ length s
-  unfolding frameLength groupSize decoded slotframeAt Counts inJoining
-  formula-most counts =
-      omega (arith, counts, counted-all s w required, mac-header-least s, template-most s bytes (w .timeslot) (w .timeslotend) (noted .timeslot (required .timeslot)), joining-most s bytes (w .joining) (w .joiningend) (noted .joining))
+  took : (inGroups (a .found) + min (inGroups (a .found)) 2 + inIetf (a .found) ≤ length (a .payload)) × AllIn (a .found)
+  took = payload-takes (a .payload) (a .found) (a .lists) (behind-byte (behind-byte (parts (a .header) _ (cut .1) .1)))
 
-  -- the arrays of a record that was read have their sizes
-  timings-size : length (decoded s w .timeslot .timings) ≡ 12
-  unfolding decoded templateAt
-  timings-size = either-eq (λ (t : TimeslotTemplate). length (t .timings) ≡ 12) _ _ (length-replicate {A = ℕ} 12 0) (length-counted _ 12) _ _
+  fields : FieldsFit (length (a .fields)) (b .sequence) (b .pan) (b .source)
+  fields = fields-fit (a .fields) _ _ _ (a .opens) (cut .0)
 
-  links-size : length (decoded s w .slotframe .links) ≡ 16
-  unfolding decoded slotframeAt
-  links-size = length-padded _ blankLink 16 _
+  bytes-in : (k : ℕ) (c : List ℕ) → contents k (a .found) ≡ c ∷ [] → All c
+  bytes-in k c e = (rw e at (contents-each k (a .found) (took .1))) .0
 
-  network-size : length (decoded s w .joining .network) ≡ 16
-  unfolding decoded joiningAt
-  network-size = either-eq (λ (j : JoiningInformation). length (j .network) ≡ 16) _ _ (length-replicate {A = ℕ} 16 0) (length-padded _ 0 16 _) _ _
+  abbrev sync-content : List ℕ
+  sync-content = a .says .synchronization .0
 
-  frame-most : fits (decoded s w) ≡ true → Counts s (macHeaderOf s .elements + 2) w (length s) → length (frameOf (decoded s w)) ≤ length s
-  frame-most within counts = rw (length-frame (decoded s w) timings-size links-size network-size within) (formula-most counts)
+  sync : (i : ℕ) → getD (b .synchronization .asn ∷ b .synchronization .metric ∷ []) i 0 < 256 ^ getD (5 ∷ 1 ∷ []) i 0
+  sync = row-entry _ _ _ (a .says .synchronization .2) (bytes-in 26 sync-content (a .says .synchronization .1))
 
-pub read-sized : (s : List ℕ) → Bytes s → readFrame s .number ≡ 0 → Sized (readFrame s .beacon)
-read-sized s bytes e =
-    let w = examined s .walk in
-    let noted = examined-noted s in
-    let required = accepted-required s e in
-    rw (← accepted-decoded s e) (record { timings = timings-size s bytes w noted required; links = links-size s bytes w noted required; network = network-size s bytes w noted required })
+  template : TemplateFits (length (a .says .timeslot .0)) (b .timeslot)
+  template = template-fits _ _ (a .says .timeslot .2) (bytes-in 28 _ (a .says .timeslot .1))
+
+  hopping : b .hopping < 256
+  hopping = first-byte (rw (a .says .hopping .2) at (bytes-in 137 _ (a .says .hopping .1)))
+
+  slotframes : SlotframeFits (length (a .says .slotframe .0)) (b .slotframe)
+  slotframes = slotframe-fits _ _ (a .says .slotframe .2) (bytes-in 27 _ (a .says .slotframe .1))
+
+  joins : JoiningFits (contents 258 (a .found)) (b .joining)
+  joins = joining-fits _ _ (a .says .joining) (contents-each 258 (a .found) (took .1))
+
+  pub said-fits : fits b ≡ true
+  unfolding fits synchronizationFits
+  said-fits =
+      also (fields .sequence) (also (fields .pan) (also (fields .source) (also (also (lt-ltb _ _ (sync 0)) (lt-ltb _ _ (sync 1)))
+      (also (template .within) (also (lt-ltb _ _ hopping) (also (slotframes .within) (joins .within)))))))
+
+  pub said-sized : Sized b
+  said-sized = record { timings = template .sized; links = slotframes .sized; network = joins .sized }
+
+  weight : (k : ℕ) (c : List ℕ) → contents k (a .found) ≡ c ∷ [] → weights 2 (contents k (a .found)) ≡ 2 + length c
+  weight k c e = rw e (omega arith)
+
+  pub said-most : length (frameOf b) ≤ length s
+  unfolding frameLength groupSize total
+  said-most =
+      let long : length s ≡ length (a .fields) + (length (a .header) + (2 + length (a .payload))) =
+      ap length (a .stands) ∙ (length-append (a .fields) _ ∙ ap (λ (n : ℕ). length (a .fields) + n) (length-append (a .header) (a .low ∷ a .high ∷ a .payload) ∙ omega arith)) in
+      let one : length (a .says .hopping .0) ≡ 1 = ap length (a .says .hopping .2) in
+      rw (length-frame b (said-sized .timings) (said-sized .links) (said-sized .network) said-fits)
+      (omega (
+        arith,
+        long,
+        took .0,
+        fields .long,
+        four-kinds (a .found),
+        joining-weight (a .found),
+        weight 26 _ (a .says .synchronization .1),
+        weight 28 _ (a .says .timeslot .1),
+        weight 137 _ (a .says .hopping .1),
+        weight 27 _ (a .says .slotframe .1),
+        row-length [] _ sync-content _ (a .says .synchronization .2),
+        template .most,
+        one,
+        slotframes .long,
+        joins .most,
+      ))
+
+-- ---- of what is read
+module _ (s : List ℕ) (bytes : Bytes s) (done : readFrame s .number ≡ 0) where
+  said : Accepts s (readFrame s .beacon)
+  said = sound s (readFrame s .beacon) bytes (λ i. record { number = done i; beacon = readFrame s .beacon })
+
+  pub read-sized : Sized (readFrame s .beacon)
+  read-sized = said-sized s _ bytes said
+
+pub accepted-fits : AcceptedFits
+accepted-fits s bytes done = said-fits s _ bytes (said s bytes done)
 
 pub written-is-not-longer : WrittenIsNotLonger
-written-is-not-longer s bytes e =
-    let w = examined s .walk in
-    let required = accepted-required s e in
-    let read : decoded s w ≡ readFrame s .beacon = accepted-decoded s e in
-    rw (← read) (frame-most s bytes w (examined-noted s) required (rw read (accepted-fits s bytes e)) (examined-count s (required .synchronization)))
+written-is-not-longer s bytes done = said-most s _ bytes (said s bytes done)
 
 pub written-is-short : WrittenIsShort
-written-is-short s bytes e =
-    by-lt 125 (length s) (λ long. absurd (omega (arith, e, one-is-the-length s .1 long))) (λ short. omega (arith, written-is-not-longer s bytes e, short))
+written-is-short s bytes done = omega (arith, written-is-not-longer s bytes done, said s bytes done .at-most-125)

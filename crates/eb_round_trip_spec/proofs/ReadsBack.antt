@@ -1,69 +1,114 @@
--- What is written reads back, from its two halves: the MAC header and the elements. Two frames differ therefore. Assumes nothing.
-use Prim.Native.Nat.{ℕ, _+_, _-_}
+-- What is written is bytes and is of the grammar, so that it reads back. Two frames differ therefore. Assumes nothing.
+use Prim.Native.Nat.{ℕ, zero, suc, _/_, _%_, _^_, _<_}
 use mathlib.Core.Path.{_≡_, refl, sym, _∙_, ap}
-use mathlib.Core.List.{List, _++_}
+use mathlib.Core.Bool.{Bool, true, false, and-eq-true-iff}
+use mathlib.Core.List.{List, [], _∷_, _++_}
 use native.Mathlib.Omega.{arith}
-use lib.ListN.{length}
+use lib.Dec.{ltb}
+use lib.ListN.{take}
 use Rattle.octets_spec.specs.Choice.{ifOn}
+use Rattle.octets_spec.specs.Number.{leBytes, beBytes}
+use Rattle.mac_header_spec.specs.declared.SequenceNumber.{SequenceNumber}
+use Rattle.mac_header_spec.specs.declared.SequenceNumber.the-variants.{Absent, Number}
+use Rattle.mac_header_spec.specs.declared.Address.{Address}
+use Rattle.mac_header_spec.specs.declared.Address.the-variants.{Short, Extended}
+use Rattle.eb_record_spec.specs.declared.Link.{Link}
+use Rattle.eb_record_spec.specs.declared.TimeslotTemplate.{TimeslotTemplate}
+use Rattle.eb_record_spec.specs.declared.Slotframe.{Slotframe}
+use Rattle.eb_record_spec.specs.declared.JoiningInformation.{JoiningInformation}
 use Rattle.eb_record_spec.specs.declared.Beacon.{Beacon}
-use Rattle.ie_walk_spec.specs.declared.Walk.{Walk}
-use Rattle.mac_header_spec.specs.Fields.{offsetsOf, macHeaderOf}
-use Rattle.eb_read_spec.specs.Decode.{decoded}
-use Rattle.eb_read_spec.proofs.DecodeLaws.{decodes}
-use Rattle.eb_read_spec.specs.Read.{elementsWalk, examined, readFrame}
-use Rattle.eb_read_spec.specs.declared.Examination.{Examination}
+use Rattle.eb_write_spec.specs.Frame.{sequenceBytes, sourceBytes, macHeaderBytes, headerDescriptor, groupDescriptor, shortDescriptor, longDescriptor, numbersIn, synchronizationBytes, timingsBytes, templateBytes, hoppingBytes, linkBytes, linksBytes, slotframeBytes, groupBytes, joiningBytes, frameOf}
+use Rattle.eb_write_spec.specs.Limits.{allBelow, addressFits, presentFits, absentFits, joiningFits, fits}
+use Rattle.eb_read_spec.specs.Claims.{Bytes}
+use Rattle.eb_read_spec.specs.Read.{readFrame}
 use Rattle.eb_read_spec.specs.declared.ReadAnswer.{ReadAnswer}
-use Rattle.eb_read_spec.proofs.ReadLaws.{faultless, examined-walk, read-done}
-use Rattle.eb_write_spec.specs.Frame.{headerDescriptor, joiningSize, joiningBytes, frameOf, frameLength, beaconGroupSize, beaconGroup, beaconMacHeader}
-use Rattle.eb_write_spec.proofs.LengthLaws.{length-mac-header}
-use Rattle.eb_round_trip_spec.specs.ReadBack.{Writable, FramesReadBack, FramesDiffer}
-use Rattle.eb_round_trip_spec.proofs.Stands.{Stands, stands-whole, stands-first, stands-rest, stands-at}
-use Rattle.eb_round_trip_spec.proofs.Fitting.{Within, within-limits}
-use Rattle.eb_round_trip_spec.proofs.FrameLengths.{length-is-the-formula}
-use Rattle.eb_round_trip_spec.proofs.MacHeaderFields.{Opens, mac-header-reads}
-use Rattle.eb_round_trip_spec.proofs.ElementsPart.{Elements, elements-read}
+use Rattle.eb_round_trip_spec.proofs.Fitting.{on-on}
+use Rattle.eb_write_spec.proofs.LengthLaws.{joining-on}
+use Rattle.eb_round_trip_spec.specs.ReadBack.{FramesReadBack, FramesDiffer, WrittenIsOfTheGrammar}
+use Rattle.eb_round_trip_spec.proofs.AllBytes.{All, none, more, bytes-of, both, all-below}
+use Rattle.eb_round_trip_spec.proofs.OfTheGrammar.{derived}
+use Rattle.eb_grammar_spec.proofs.Agreed.{complete}
 
-module _ (s : List ℕ) (b : Beacon) (ok : Writable b) (is : s ≡ frameOf b) where
-  limits : Within b
-  limits = within-limits b (ok .sized) (ok .within)
+all-on : (test : Bool) (xs ys : List ℕ) → (test ≡ true → All xs) → (test ≡ false → All ys) → All (ifOn test xs ys)
+unfolding ifOn
+all-on true xs ys a b = a refl
+all-on false xs ys a b = b refl
 
-  whole : Stands s 0 (beaconMacHeader b ++ (headerDescriptor 126 0 ++ (beaconGroup b ++ joiningBytes (b .joining))))
-  unfolding frameOf
-  whole = stands-whole s _ is
+-- ---- numbers
+low : (n : ℕ) → n % 256 < 256
+low n = omega arith
 
-  -- ---- the two halves
-  header : Opens s b
-  header = mac-header-reads s b limits (rw is (ok .short)) (stands-first s (beaconMacHeader b) _ 0 whole)
+all-le : (width n : ℕ) → All (leBytes width n)
+unfolding leBytes
+all-le zero n = none
+all-le (suc width) n = more (low n) (all-le width (n / 256))
 
-  abbrev at : ℕ
-  at = length (beaconMacHeader b)
+all-be : (width n : ℕ) → All (beBytes width n)
+unfolding beBytes
+all-be zero n = none
+all-be (suc width) n = more (low (n / 256 ^ width)) (all-be width n)
 
-  ends : length s ≡ at + 2 + (2 + beaconGroupSize b) + ifOn (b .joining .present) (2 + joiningSize (b .joining)) 0
-  unfolding frameLength
-  ends = ap length is ∙ (length-is-the-formula b (ok .sized) (ok .within) ∙ omega (arith, length-mac-header (b .sequence) (b .pan) (b .source)))
+all-numbers : (width : ℕ) (ns : List ℕ) → All (numbersIn width ns)
+unfolding numbersIn
+all-numbers width [] = none
+all-numbers width (n ∷ ns) = both (all-le width n) (all-numbers width ns)
 
-  abbrev walk : Walk
-  walk = elementsWalk s at (length s)
+all-links : (ls : List Link) → All (linksBytes ls)
+unfolding linksBytes linkBytes
+all-links [] = none
+all-links (l ∷ ls) = both (both (all-le 2 _) (both (all-le 2 _) (all-le 1 _))) (all-links ls)
 
-  elements : Elements s b walk
-  elements = elements-read s at (length s) b (ok .sized) limits ends (stands-at s _ _ at (omega arith) (stands-rest s (beaconMacHeader b) _ 0 whole))
+-- ---- the frame
+all-sequence : (q : SequenceNumber) → All (sequenceBytes q)
+unfolding sequenceBytes
+all-sequence Absent = none
+all-sequence (Number n) = all-le 1 n
 
-  -- ---- the number and the record
-  examines : _≡_ {A = Examination} (record { number = 0; walk = walk }) (examined s)
-  unfolding macHeaderOf offsetsOf
-  examines = examined-walk s 0 (header .fine) walk 0 refl (rw (header .offset) refl) (faultless walk 0 (elements .noted .fine) (elements .noted .all))
+all-source : (a : Address) → All (sourceBytes a)
+unfolding sourceBytes
+all-source (Short n) = all-le 2 n
+all-source (Extended n) = all-le 8 n
 
-  decodes-it : b ≡ decoded s walk
-  decodes-it =
-      let n = elements .noted in
-      decodes s walk (b .sequence) (b .pan) (b .source) (b .synchronization) (b .timeslot) (walk .timeslotend - walk .timeslot) (b .hopping) (b .slotframe) (b .joining)
-      (header .sequence) (header .pan) (header .source) (n .synchronization) refl (n .timeslot) (n .hopping) (n .slotframe) (elements .joining)
+all-template : (t : TimeslotTemplate) → All (templateBytes t)
+unfolding templateBytes shortDescriptor timingsBytes
+all-template t = both (all-le 2 _) (both (all-le 1 _) (all-on (t .timed) _ _ (λ _. both (all-numbers 2 _) (all-numbers _ _)) (λ _. none)))
 
-  reads : _≡_ {A = ReadAnswer} (record { number = 0; beacon = b }) (readFrame s)
-  reads = read-done s (record { number = 0; walk = walk }) examines b refl decodes-it
+all-slotframe : (f : Slotframe) → All (slotframeBytes f)
+unfolding slotframeBytes shortDescriptor
+all-slotframe f = both (all-le 2 _) (both (all-le 1 _) (both (all-le 1 _) (both (all-le 2 _) (both (all-le 1 _) (all-links _)))))
+
+network-below : (j : JoiningInformation) → presentFits j ≡ true → allBelow 256 (take (j .length) (j .network)) ≡ true
+unfolding presentFits
+network-below j e =
+    let k₁ = and-eq-true-iff (ltb (j .proxy) 128) _ .0 e in
+    let k₂ = and-eq-true-iff (ltb (j .rank) 4096) _ .0 (k₁ .1) in
+    let k₃ = and-eq-true-iff (ltb (j .pan) 256) _ .0 (k₂ .1) in
+    let k₄ = and-eq-true-iff (addressFits j) _ .0 (k₃ .1) in
+    let k₅ = and-eq-true-iff (ltb (j .length) 17) _ .0 (k₄ .1) in
+    and-eq-true-iff (allBelow 256 (take (j .length) (j .network))) _ .0 (k₅ .1) .0
+
+all-joining : (j : JoiningInformation) → joiningFits j ≡ true → All (joiningBytes j)
+unfolding joiningBytes groupDescriptor joiningFits
+all-joining j e =
+    all-on (j .present) _ _
+    (λ there.
+    let network = all-below _ (network-below j (on-on (j .present) (presentFits j) (absentFits j) e there)) in
+    both (all-le 2 _) (both (all-le 1 _) (both (all-be 4 _) (both (all-on (j .proxied) _ _ (λ _. all-be 8 _) (λ _. none)) network))))
+    (λ _. none)
+
+frame-bytes : (b : Beacon) → fits b ≡ true → All (frameOf b)
+unfolding frameOf macHeaderBytes headerDescriptor groupBytes groupDescriptor synchronizationBytes shortDescriptor hoppingBytes longDescriptor
+frame-bytes b e =
+    both (both (all-le 2 _) (both (all-sequence _) (both (all-le 2 _) (both (all-le 2 _) (all-source _)))))
+    (both (all-le 2 _)
+    (both (both (all-le 2 _) (both (both (all-le 2 _) (both (all-le 5 _) (all-le 1 _))) (both (all-template _) (both (both (all-le 2 _) (all-le 1 _)) (all-slotframe _)))))
+    (all-joining (b .joining) (joining-on b e))))
+
+pub written-is-of-the-grammar : WrittenIsOfTheGrammar
+written-is-of-the-grammar b ok = derived b ok
 
 pub frames-read-back : FramesReadBack
-frames-read-back b ok = sym (reads (frameOf b) b ok refl)
+frames-read-back b ok = complete (frameOf b) b (bytes-of _ (frame-bytes b (ok .within))) (derived b ok)
 
 pub frames-differ : FramesDiffer
 frames-differ a b ok-a ok-b same = ap (λ (r : ReadAnswer). r .beacon) (sym (frames-read-back a ok-a) ∙ (ap readFrame same ∙ frames-read-back b ok-b))

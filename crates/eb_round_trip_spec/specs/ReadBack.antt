@@ -11,6 +11,7 @@ use Rattle.eb_write_spec.specs.Frame.{sourceMode, frameOf, frameLength}
 use Rattle.eb_write_spec.specs.Limits.{fits}
 use Rattle.eb_write_spec.specs.Form.{formWritten}
 use Rattle.eb_read_spec.specs.Read.{readFrame}
+use Rattle.eb_grammar_spec.specs.Grammar.{Accepts}
 
 -- the record's arrays have their sizes: twelve timings, sixteen links, sixteen bytes of a network ID
 pub record Sized (beacon : Beacon) : Type 0 where
@@ -23,6 +24,10 @@ pub record Writable (beacon : Beacon) : Type 0 where
   pub sized : Sized beacon
   pub within : fits beacon ≡ true
   pub short : length (frameOf beacon) ≤ 125
+
+-- the frame of a record that can be written is of the grammar, and says that record
+abbrev pub WrittenIsOfTheGrammar : Type 0
+WrittenIsOfTheGrammar = (beacon : Beacon) → Writable beacon → Accepts (frameOf beacon) beacon
 
 -- reading the frame of a record that can be written is done, and gives that record
 abbrev pub FramesReadBack : Type 0

@@ -1,10 +1,11 @@
 // Theorems about writing and reading: what is written reads back (specs/ReadBack.antt), what reading accepts can be written
 // (specs/Accepted.antt), and what comes back of a record that is written and read (specs/RoundTrip.antt).
 ghost use Rattle.eb_round_trip_spec.specs.Accepted.{AcceptedFits, AcceptedReadsBack, ReadFormsAreWritten, ShortestFormIsWritten, ShortestIsWrittenBack, WrittenIsNotLonger, WrittenIsShort};
-ghost use Rattle.eb_round_trip_spec.specs.ReadBack.{FramesReadBack, FormsReadBack, FramesDiffer, LengthIsTheFormula, LengthsFrom38To177, LengthsAreMet, FullRecordIsWritable};
+ghost use Rattle.eb_round_trip_spec.specs.ReadBack.{WrittenIsOfTheGrammar, FramesReadBack, FormsReadBack, FramesDiffer, LengthIsTheFormula, LengthsFrom38To177, LengthsAreMet, FullRecordIsWritable};
 
 // Cites each theorem, so that the gate fails if the proof of one goes.
 pub fn theorems()
+    ensures written_is_of_the_grammar { λ _. ⌜ WrittenIsOfTheGrammar ⌝ }
     ensures frames_read_back { λ _. ⌜ FramesReadBack ⌝ }
     ensures forms_read_back { λ _. ⌜ FormsReadBack ⌝ }
     ensures frames_differ { λ _. ⌜ FramesDiffer ⌝ }

@@ -1,4 +1,5 @@
 -- `eb_read::read` meets its contract. Assumes nothing.
+use Rattle.eb_grammar_spec.proofs.SaidLaws.{read-as-said}
 use Rattle.eb_read_spec.proofs.Claimed.{numbers-to-8, one-is-the-length}
 use Rattle.eb_read_spec.proofs.Accepted.{accepted-may-be-decided-on}
 use Rattle.eb_read_spec.proofs.ReadLaws.{read-refused}
@@ -14,7 +15,9 @@ blank-requires : tie.Need-blank-requires
 blank-requires c κs = search needs
 
 returns : tie.Need-returns
-returns c = (read-refused _ _ (c .before .before .before .examine .ensures .0) _ (search needs) (c .blank .ensures), (numbers-to-8, (one-is-the-length, accepted-may-be-decided-on)))
+returns c =
+    let is = read-refused _ _ (c .before .before .before .examine .ensures .0) _ (search needs) (c .blank .ensures) in
+    (is, (numbers-to-8, (one-is-the-length, (accepted-may-be-decided-on, read-as-said _ (search needs) _ _ is))))
 
 decode-requires : tie.Need-decode-requires
 decode-requires c κs = search needs
@@ -23,7 +26,9 @@ beacon-of-requires : tie.Need-beacon-of-requires
 beacon-of-requires c κs = search needs
 
 returns-2 : tie.Need-returns-2
-returns-2 c = (read-record _ _ (c .before .before .before .before .before .examine .ensures .0) (search needs) _ (c .before .decode .ensures .0) _ (c .before .decode .ensures .1) (c .beacon-of .ensures), (numbers-to-8, (one-is-the-length, accepted-may-be-decided-on)))
+returns-2 c =
+    let is = read-record _ _ (c .before .before .before .before .before .examine .ensures .0) (search needs) _ (c .before .decode .ensures .0) _ (c .before .decode .ensures .1) (c .beacon-of .ensures) in
+    (is, (numbers-to-8, (one-is-the-length, (accepted-may-be-decided-on, read-as-said _ (search needs) _ _ is))))
 
 pub read-spec : {M : Type 1} → statement M
 read-spec =

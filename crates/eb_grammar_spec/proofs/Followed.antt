@@ -1,0 +1,343 @@
+-- What follows from the grammar: a frame has one reading by it, so that what replaces a part of the frame and is found to say the same gives a
+-- frame that says the same. Assumes nothing.
+use Prim.Native.Nat.{ℕ, suc, _+_, _*_, _/_, _%_, _≤_, _<_}
+use mathlib.Core.Path.{_≡_, refl, sym, _∙_, ap, subst}
+use mathlib.Core.Bool.{true}
+use mathlib.Core.List.{List, [], _∷_, _++_, append-nil, append-assoc}
+use mathlib.Core.Logic.{_⊎_, inl, inr, ⊎-elim}
+use native.Mathlib.Omega.{arith}
+use lib.ListN.{length, getD, length-append, replicate}
+use Rattle.octets_spec.proofs.ChoiceLaws.{if-eq, if-ne}
+use Rattle.mac_header_spec.specs.declared.SequenceNumber.{SequenceNumber}
+use Rattle.mac_header_spec.specs.declared.Address.{Address}
+use Rattle.eb_record_spec.specs.declared.TimeslotTemplate.{TimeslotTemplate}
+use Rattle.eb_record_spec.specs.declared.JoiningInformation.{JoiningInformation}
+use Rattle.eb_record_spec.specs.declared.Beacon.{Beacon}
+use Rattle.eb_grammar_spec.specs.Row.{le, be, bits, Row}
+use Rattle.eb_grammar_spec.specs.Grammar.{FrameControl, FixedFields, fixed-fields, Descriptor, HeaderElements, Element, SubElements, group-end, sub-element, Group, mlme, ietf-element, PayloadElements, bytes-end, payload-end, payload-element, TimeslotContent, timed-25, timed-27, JoiningContent, absent, joining, contents, Says, Accepts}
+use Rattle.eb_grammar_spec.specs.Follows.{Known, SameKnown, Before, OneElement, one-element, OneSubElement, one-sub-element, IgnoredBitsDoNotCount, HeaderElementsDoNotCount, NothingCountsBehind7F, KnownContentsCount, BytesBehindGroup15DoNotCount, UnknownElementsDoNotCount, UnknownSubElementsDoNotCount, OrderDoesNotCount, ReservedJoiningBitsDoNotCount, BothTimingFormsSayTheSame}
+use Rattle.eb_grammar_spec.proofs.Stands.{stands-whole}
+use Rattle.eb_grammar_spec.proofs.Notes.{contents-append}
+use Rattle.eb_grammar_spec.proofs.Timed.{timeslot-value}
+use Rattle.eb_grammar_spec.proofs.Joined.{no-entry}
+use Rattle.eb_grammar_spec.proofs.Unique.{split, heads, fields-same, header-same, payload-same}
+
+-- ---- the fixed fields and the header elements
+eighth : (n : ℕ) → n / 8 % 2 ≡ n % 16 / 8
+eighth n = omega arith
+
+three : (v w : ℕ) → v % 16 ≡ w % 16 → w / 1 % 8 ≡ 0 → v / 1 % 8 ≡ 0
+three v w e f = omega (arith, e, f)
+
+even : (n k : ℕ) → (n + 4 * k) % 2 ≡ n % 2
+even n k = omega arith
+
+sixth : (n x : ℕ) → (n + 256 * x) / 64 % 2 ≡ n / 64 % 2
+sixth n x = let k : (n + 256 * x) / 64 ≡ n / 64 + 4 * x = omega arith in rw k (even (n / 64) x)
+
+module _ (low other : ℕ) (small : low < 256) (small′ : other < 256) where
+  same-above : (x : ℕ) → let v : ℕ = other + 256 * x in let w : ℕ = low + 256 * x in (v / 256 ≡ w / 256) × (v / 512 ≡ w / 512) × (v / 1024 ≡ w / 1024) × (v / 4096 ≡ w / 4096) × (v / 16384 ≡ w / 16384)
+  same-above x = (omega arith, omega arith, omega arith, omega arith, omega arith)
+
+  module _ (four : bits 0 4 low ≡ bits 0 4 other) (six : bits 6 1 low ≡ bits 6 1 other) (high : ℕ) where
+    same-below : (x : ℕ) → (other + 256 * x) % 16 ≡ (low + 256 * x) % 16
+    same-below x = omega (arith, four)
+
+    other-bits : (suppression mode : ℕ) → FrameControl (le (low ∷ high ∷ [])) suppression mode → FrameControl (le (other ∷ high ∷ [])) suppression mode
+    unfolding le
+    other-bits suppression mode c =
+        let x : ℕ = high + 256 * 0 in
+        let above = same-above x in
+        record {
+          type = three (other + 256 * x) (low + 256 * x) (same-below x) (c .type);
+          security = eighth (other + 256 * x) ∙ (ap (λ (n : ℕ). n / 8) (same-below x) ∙ (sym (eighth (low + 256 * x)) ∙ c .security));
+          compression = sixth other x ∙ (sym six ∙ (sym (sixth low x) ∙ c .compression));
+          suppression = ap (λ (n : ℕ). n % 2) (above .0) ∙ c .suppression;
+          elements = ap (λ (n : ℕ). n % 2) (above .1) ∙ c .elements;
+          destination = ap (λ (n : ℕ). n % 4) (above .2) ∙ c .destination;
+          version = ap (λ (n : ℕ). n % 4) (above .3) ∙ c .version;
+          source = ap (λ (n : ℕ). n % 4) (above .4) ∙ c .source;
+        }
+
+    other-fields : (rest xs fields : List ℕ) (n : SequenceNumber) (p : ℕ) (s : Address) → FixedFields fields n p s → low ∷ high ∷ rest ≡ fields ++ xs → (changed : List ℕ) × FixedFields changed n p s × (other ∷ high ∷ rest ≡ changed ++ xs)
+    other-fields rest xs _ _ _ _ (fixed-fields l h p q {suppression} {mode} {sequence} {source} c q-says s-says) e =
+        let head = heads e in
+        let d : FrameControl (le (other ∷ h ∷ [])) suppression mode = rw (head .1) at (other-bits suppression mode (rw (head .0, head .1) c)) in
+        (other ∷ h ∷ (sequence ++ (p ∷ q ∷ 255 ∷ 255 ∷ source)), fixed-fields other h p q d q-says s-says, rw (head .1, head .2))
+
+pub ignored-bits-do-not-count : IgnoredBitsDoNotCount
+ignored-bits-do-not-count low other high rest b small small′ four six a =
+    let f = other-fields low other small small′ four six high rest _ (a .fields) _ _ _ (a .opens) (a .stands) in
+    record { fields = f .0; header = a .header; low = a .low; high = a .high; payload = a .payload; found = a .found; at-most-125 = a .at-most-125; stands = f .2; opens = f .1; skips = a .skips; follows = a .follows; lists = a .lists; says = a .says }
+
+ends-126 : (_≡_ {A = ℕ} 126 126 → ⊥) → (_≡_ {A = ℕ} 126 127 → ⊥) → ⊥
+ends-126 n m = n refl
+
+ends-127 : (_≡_ {A = ℕ} 127 126 → ⊥) → (_≡_ {A = ℕ} 127 127 → ⊥) → ⊥
+ends-127 n m = m refl
+
+module _ (fields header : List ℕ) (sequence : SequenceNumber) (pan : ℕ) (source : Address) (opens : FixedFields fields sequence pan source) (skips : HeaderElements header) where
+  -- where the fields and the header elements of an accepted frame end
+  pub front-same : (low high n i : ℕ) (rest : List ℕ) → Descriptor 7 low high n i 0 → ((i ≡ 126 → ⊥) → (i ≡ 127 → ⊥) → ⊥) → (s : List ℕ) (b : Beacon) (a : Accepts s b) → s ≡ fields ++ (header ++ (low ∷ high ∷ rest))
+      → (fields ≡ a .fields) × (header ≡ a .header) × (low ∷ high ∷ rest ≡ a .low ∷ a .high ∷ a .payload)
+  front-same low high n i rest d ends s b a e =
+      let f = fields-same fields (a .fields) _ _ _ _ _ _ _ _ opens (a .opens) (sym e ∙ a .stands) in
+      let h = header-same _ _ _ _ _ _ _ _ _ _ d (a .follows) ends ends-126 header (a .header) skips (a .skips) (f .1) in
+      (f .0, h .0, h .1)
+
+pub nothing-counts-behind-7f : NothingCountsBehind7F
+nothing-counts-behind-7f fields header rest low high size pan sequence source b opens skips d a =
+    let same = heads (front-same fields header sequence pan source opens skips low high size 127 rest d ends-127 _ b a refl .2) in
+    let is = rw (same .0, same .1) at (d .parts) in
+    omega (arith, is, a .follows .parts, d .length-fits)
+
+pub header-elements-do-not-count : HeaderElementsDoNotCount
+header-elements-do-not-count fields header other payload low high pan sequence source b opens skips skips′ d short a =
+    let same = front-same fields header sequence pan source opens skips low high 0 126 payload d ends-126 _ b a refl in
+    record {
+      fields = a .fields;
+      header = other;
+      low = a .low;
+      high = a .high;
+      payload = a .payload;
+      found = a .found;
+      at-most-125 = short;
+      stands = rw (same .0, same .2);
+      opens = a .opens;
+      skips = skips′;
+      follows = a .follows;
+      lists = a .lists;
+      says = a .says;
+    }
+
+-- ---- the payload list
+-- what stands behind payload elements goes on with the list, or is ignored
+goes-on : (payload : List ℕ) (found : List Element) → PayloadElements payload found
+    → ((rest : List ℕ) (more : List Element) → PayloadElements rest more → PayloadElements (payload ++ rest) (found ++ more)) ⊎ ((rest : List ℕ) → PayloadElements (payload ++ rest) found)
+goes-on _ _ bytes-end = inl (λ rest more list. list)
+goes-on _ _ (payload-end a b ignored d) = inr (λ rest. payload-end a b (ignored ++ rest) d)
+goes-on _ _ (payload-element a b n c {rest = behind} {inside} {found} d not-15 holds list) =
+    ⊎-elim
+    (λ go. inl (λ rest more next. rw (append-assoc c behind rest, append-assoc inside found more) (payload-element a b n c d not-15 holds (go rest more next))))
+    (λ go. inr (λ rest. rw (append-assoc c behind rest) (payload-element a b n c d not-15 holds (go rest)))) (goes-on behind found list)
+
+module _ (before : List ℕ) (p : Before before) (xs ys : List ℕ) (f g : List Element) (b : Beacon) (one : PayloadElements xs f) (other : PayloadElements ys g) where
+  behind : (rest : List ℕ) → before ++ rest ≡ p .fields ++ (p .header ++ (p .low ∷ p .high ∷ (p .payload ++ rest)))
+  behind rest =
+      ap (λ (l : List ℕ). l ++ rest) (p .stands)
+      ∙ (append-assoc (p .fields) (p .header ++ (p .low ∷ p .high ∷ p .payload)) rest ∙ ap (λ (l : List ℕ). p .fields ++ l) (append-assoc (p .header) (p .low ∷ p .high ∷ p .payload) rest))
+
+  -- the same frame with another list behind the place
+  pub replaced : (Says (p .found ++ f) b → Says (p .found ++ g) b) → length (before ++ ys) ≤ 125 → Accepts (before ++ xs) b → Accepts (before ++ ys) b
+  replaced says short a =
+      let same = front-same (p .fields) (p .header) _ _ _ (p .opens) (p .skips) (p .low) (p .high) 0 126 (p .payload ++ xs) (p .follows) ends-126 _ b a (behind xs) in
+      let list = heads (same .2) .2 in
+      let with : (found : List Element) → PayloadElements (p .payload ++ ys) found → Says found b → Accepts (before ++ ys) b =
+      λ found lists said. record {
+        fields = a .fields;
+        header = a .header;
+        low = p .low;
+        high = p .high;
+        payload = p .payload ++ ys;
+        found = found;
+        at-most-125 = short;
+        stands = rw (← same .0, ← same .1) (behind ys);
+        opens = a .opens;
+        skips = a .skips;
+        follows = p .follows;
+        lists = lists;
+        says = said;
+      } in
+      ⊎-elim
+      (λ go.
+      let found : p .found ++ f ≡ a .found = payload-same _ _ _ _ (go xs f one) (a .lists) list in
+      with (p .found ++ g) (go ys g other) (says (rw found (a .says))))
+      (λ go.
+      let found : p .found ≡ a .found = payload-same _ _ _ _ (go xs) (a .lists) list in
+      with (p .found) (go ys) (rw found (a .says)))
+      (goes-on (p .payload) (p .found) (p .lists))
+
+-- ---- elements that say the same
+says-same : (f g : List Element) (b : Beacon) → SameKnown f g → Says f b → Says g b
+says-same f g b same says = record {
+  synchronization = (says .synchronization .0, sym (same 26 (inl refl)) ∙ says .synchronization .1, says .synchronization .2);
+  timeslot = (says .timeslot .0, sym (same 28 (inr (inr (inl refl)))) ∙ says .timeslot .1, says .timeslot .2);
+  hopping = (says .hopping .0, sym (same 137 (inr (inr (inr (inl refl))))) ∙ says .hopping .1, says .hopping .2);
+  slotframe = (says .slotframe .0, sym (same 27 (inr (inl refl))) ∙ says .slotframe .1, says .slotframe .2);
+  joining = rw (← same 258 (inr (inr (inr (inr refl))))) (says .joining);
+}
+
+behind-same : (h f g : List Element) → SameKnown f g → SameKnown (h ++ f) (h ++ g)
+behind-same h f g same k known = rw (contents-append k h f, contents-append k h g, same k known)
+
+before-same : (f g h : List Element) → SameKnown f g → SameKnown (f ++ h) (g ++ h)
+before-same f g h same k known = rw (contents-append k f h, contents-append k g h, same k known)
+
+pub known-contents-count : KnownContentsCount
+known-contents-count before xs ys f g b p one other same short = replaced before p xs ys f g b one other (says-same _ _ b (behind-same (p .found) f g same)) short
+
+pub bytes-behind-group-15-do-not-count : BytesBehindGroup15DoNotCount
+bytes-behind-group-15-do-not-count before ignored other low high b p d short = replaced before p _ _ [] [] b (payload-end low high ignored d) (payload-end low high other d) (λ says. says) short
+
+pub unknown-elements-do-not-count : UnknownElementsDoNotCount
+unknown-elements-do-not-count before content _ rest group inside found b p (one-element low high d) not-15 holds none list short =
+    let with : PayloadElements (low ∷ high ∷ (content ++ rest)) (inside ++ found) = payload-element low high group content d not-15 holds list in
+    let less : length (before ++ rest) ≤ 125 = omega (arith, short, length-append before rest, length-append before (low ∷ high ∷ (content ++ rest)), length-append content rest) in (
+      replaced before p _ _ _ _ b list with (says-same _ _ b (behind-same (p .found) _ _ (λ k known. sym (before-same inside [] found none k known)))) short,
+      replaced before p _ _ _ _ b with list (says-same _ _ b (behind-same (p .found) _ _ (before-same inside [] found none))) less,
+    )
+
+-- ---- groups
+subs-append : (xs ys : List ℕ) (f g : List Element) → SubElements xs f → SubElements ys g → SubElements (xs ++ ys) (f ++ g)
+subs-append _ ys _ g group-end more = more
+subs-append _ ys _ g (sub-element a b k c {rest} {found} d behind) more = rw (append-assoc c rest ys) (sub-element a b k c d (subs-append rest ys found g behind more))
+
+group-list : (content group rest : List ℕ) (inside found : List Element) → OneElement 1 content group → SubElements content inside → PayloadElements rest found → PayloadElements (group ++ rest) (inside ++ found)
+group-list content _ rest inside found (one-element low high d) subs list = payload-element low high 1 content d (λ (z : _≡_ {A = ℕ} 1 15). omega arith) (mlme subs) list
+
+pub unknown-sub-elements-do-not-count : UnknownSubElementsDoNotCount
+unknown-sub-elements-do-not-count before one unknown two rest group wider in-one in-unknown in-two found b p narrow wide ones unknowns twos none list short short′ =
+    let without = group-list _ group rest _ found narrow (subs-append one two in-one in-two ones twos) list in
+    let with = group-list _ wider rest _ found wide (subs-append one (unknown ++ two) in-one (in-unknown ++ in-two) ones (subs-append unknown two in-unknown in-two unknowns twos)) list in
+    let same : SameKnown (p .found ++ ((in-one ++ (in-unknown ++ in-two)) ++ found)) (p .found ++ ((in-one ++ in-two) ++ found)) =
+    behind-same (p .found) _ _ (before-same _ _ found (behind-same in-one _ _ (before-same in-unknown [] in-two none))) in (
+      replaced before p _ _ _ _ b without with (says-same _ _ b (λ k known. sym (same k known))) short′,
+      replaced before p _ _ _ _ b with without (says-same _ _ b same) short,
+    )
+
+-- ---- the order
+few-joining : (cs : List (List ℕ)) (j : JoiningInformation) → JoiningContent cs j → length cs ≤ 1
+few-joining _ _ absent = omega arith
+few-joining _ _ (joining word address network four eight few) = omega arith
+
+says-few : (f : List Element) (b : Beacon) → Says f b → (k : ℕ) → Known k → length (contents k f) ≤ 1
+says-few f b says k (inl e) = rw (e, says .synchronization .1) (omega arith)
+says-few f b says k (inr (inl e)) = rw (e, says .slotframe .1) (omega arith)
+says-few f b says k (inr (inr (inl e))) = rw (e, says .timeslot .1) (omega arith)
+says-few f b says k (inr (inr (inr (inl e)))) = rw (e, says .hopping .1) (omega arith)
+says-few f b says k (inr (inr (inr (inr e)))) = rw e (few-joining _ _ (says .joining))
+
+module _ {A : Type 0} where
+  swap : (xs ys : List A) → length (xs ++ ys) ≤ 1 → xs ++ ys ≡ ys ++ xs
+  swap [] ys h = sym (append-nil ys)
+  swap (x ∷ xs) [] h = append-nil (x ∷ xs)
+  swap (x ∷ xs) (y ∷ ys) h = absurd (omega (arith, h, length-append xs (y ∷ ys)))
+
+  swap-inside : (a u v w x y : List A) → length (a ++ ((u ++ (v ++ (w ++ x))) ++ y)) ≤ 1 → a ++ ((u ++ (v ++ (w ++ x))) ++ y) ≡ a ++ ((u ++ (w ++ (v ++ x))) ++ y)
+  swap-inside a u v w x y few =
+      let short : length (v ++ w) ≤ 1 =
+      omega (arith, few, length-append a ((u ++ (v ++ (w ++ x))) ++ y), length-append (u ++ (v ++ (w ++ x))) y, length-append u (v ++ (w ++ x)), length-append v (w ++ x), length-append w x, length-append v w) in
+      let same : v ++ (w ++ x) ≡ w ++ (v ++ x) = sym (append-assoc v w x) ∙ (ap (λ (l : List A). l ++ x) (swap v w short) ∙ append-assoc w v x) in
+      rw same
+
+contents-of : (k : ℕ) (a u v w x y : List Element) → contents k (a ++ ((u ++ (v ++ (w ++ x))) ++ y)) ≡ contents k a ++ ((contents k u ++ (contents k v ++ (contents k w ++ contents k x))) ++ contents k y)
+contents-of k a u v w x y =
+    rw (contents-append k a ((u ++ (v ++ (w ++ x))) ++ y), contents-append k (u ++ (v ++ (w ++ x))) y, contents-append k u (v ++ (w ++ x)), contents-append k v (w ++ x), contents-append k w x)
+
+pub order-does-not-count : OrderDoesNotCount
+order-does-not-count before one two three four rest group other u v w x found b p first second ones twos threes fours list short =
+    let list₁ = group-list _ group rest _ found first (subs-append one _ u _ ones (subs-append two _ v _ twos (subs-append three four w x threes fours))) list in
+    let list₂ = group-list _ other rest _ found second (subs-append one _ u _ ones (subs-append three _ w _ threes (subs-append two four v x twos fours))) list in
+    replaced before p _ _ _ _ b list₁ list₂
+    (λ says.
+    says-same _ _ b (λ k known.
+    contents-of k (p .found) u v w x found
+    ∙ (swap-inside (contents k (p .found)) (contents k u) (contents k v) (contents k w) (contents k x) (contents k found) (rw (contents-of k (p .found) u v w x found) at (says-few _ b says k known))
+    ∙ sym (contents-of k (p .found) u w v x found))) says) short
+
+-- ---- the content of one element
+only-one : {A : Type 0} (x c d : A) (before after : List A) → before ++ (c ∷ after) ≡ x ∷ [] → (c ≡ x) × (before ++ (d ∷ after) ≡ d ∷ [])
+only-one x c d [] [] e = (ap (λ (l : List _). getD l 0 x) e, refl)
+only-one x c d [] (y ∷ after) e = let longer : _≡_ {A = ℕ} (2 + length after) 1 = omega arith ∙ ap length e in absurd (omega (arith, longer))
+only-one x c d (y ∷ before) after e = let longer : _≡_ {A = ℕ} (suc (length (before ++ (c ∷ after)))) 1 = ap length e in absurd (omega (arith, longer, length-append before (c ∷ after)))
+
+module _ (h f : List Element) (kind : ℕ) where
+  here : (c : List ℕ) → contents kind (h ++ (record { kind = kind; content = c } ∷ f)) ≡ contents kind h ++ (c ∷ contents kind f)
+  unfolding contents
+  here c = contents-append kind h _ ∙ ap (λ (cs : List (List ℕ)). contents kind h ++ cs) (sym (if-eq _ _ kind kind refl refl))
+
+  elsewhere : (c d : List ℕ) (k : ℕ) → (kind ≡ k → ⊥) → contents k (h ++ (record { kind = kind; content = c } ∷ f)) ≡ contents k (h ++ (record { kind = kind; content = d } ∷ f))
+  unfolding contents
+  elsewhere c d k n = contents-append k h _ ∙ (ap (λ (cs : List (List ℕ)). contents k h ++ cs) (sym (if-ne _ _ kind k n refl) ∙ if-ne _ _ kind k n refl) ∙ sym (contents-append k h _))
+
+-- ---- joining information's reserved bits
+bit-31 : (n : ℕ) → n / 2147483648 % 2 ≡ n / 1073741824 % 4 / 2
+bit-31 n = let k : n / 2147483648 ≡ n / 1073741824 / 2 = omega arith in rw k (omega arith)
+
+bit-30 : (n : ℕ) → n / 1073741824 % 2 ≡ n / 1073741824 % 4 % 2
+bit-30 n = omega arith
+
+bits-20 : (n : ℕ) → n / 1048576 % 128 ≡ n / 1 % 134217728 / 1048576
+bits-20 n = omega arith
+
+bits-8 : (n : ℕ) → n / 256 % 4096 ≡ n / 1 % 134217728 / 256 % 4096
+bits-8 n = let k : n / 1 % 134217728 / 256 ≡ n / 256 % 524288 = omega arith in rw k (omega arith)
+
+bits-0 : (n : ℕ) → n / 1 % 256 ≡ n / 1 % 134217728 % 256
+bits-0 n = omega arith
+
+module _ (word other content : List ℕ) (four : length word ≡ 4) (four′ : length other ≡ 4) (top : bits 30 2 (be word) ≡ bits 30 2 (be other)) (low : bits 0 27 (be word) ≡ bits 0 27 (be other)) where
+  by-top : (f : ℕ → ℕ) (g : ℕ → ℕ) → ((n : ℕ) → f n ≡ g (n / 1073741824 % 4)) → f (be word) ≡ f (be other)
+  by-top f g is = is (be word) ∙ (ap g top ∙ sym (is (be other)))
+
+  by-low : (f : ℕ → ℕ) (g : ℕ → ℕ) → ((n : ℕ) → f n ≡ g (n / 1 % 134217728)) → f (be word) ≡ f (be other)
+  by-low f g is = is (be word) ∙ (ap g low ∙ sym (is (be other)))
+
+  joining-changed : (cs : List (List ℕ)) (j : JoiningInformation) → JoiningContent cs j → (before after : List (List ℕ)) → cs ≡ before ++ ((word ++ content) ∷ after) → JoiningContent (before ++ ((other ++ content) ∷ after)) j
+  joining-changed _ _ absent before after e = absurd (no-entry _ before after e)
+  joining-changed _ _ (joining w address network w-four eight few) before after e =
+      let one = only-one (w ++ (address ++ network)) (word ++ content) (other ++ content) before after (sym e) in
+      let cut = split w word (address ++ network) content (sym (one .0)) (w-four ∙ sym four) in
+      let p : bits 30 1 (be word) ≡ bits 30 1 (be other) = by-top (λ n. bits 30 1 n) (λ n. n % 2) bit-30 in
+      let r : bits 31 1 (be word) ≡ bits 31 1 (be other) = by-top (λ n. bits 31 1 n) (λ n. n / 2) bit-31 in
+      let proxy : bits 20 7 (be word) ≡ bits 20 7 (be other) = by-low (λ n. bits 20 7 n) (λ n. n / 1048576) bits-20 in
+      let rank : bits 8 12 (be word) ≡ bits 8 12 (be other) = by-low (λ n. bits 8 12 n) (λ n. n / 256 % 4096) bits-8 in
+      let pan : bits 0 8 (be word) ≡ bits 0 8 (be other) = by-low (λ n. bits 0 8 n) (λ n. n % 256) bits-0 in
+      let eight′ : length address ≡ 8 * bits 30 1 (be other) = eight ∙ rw (cut .0, p) in
+      rw (one .1, ← cut .1, cut .0, r, p, proxy, rank, pan) (joining other address network four′ eight′ few)
+
+pub reserved-joining-bits-do-not-count : ReservedJoiningBitsDoNotCount
+reserved-joining-bits-do-not-count before word other content _ _ rest found b p four four′ top low (one-element l h d) (one-element l′ h′ d′) list short =
+    let lists : (low high : ℕ) (c : List ℕ) → Descriptor 11 low high (suc (length c)) 5 1 → PayloadElements (low ∷ high ∷ 2 ∷ (c ++ rest)) (record { kind = 258; content = c } ∷ found) =
+    λ low high c d. payload-element low high 5 (2 ∷ c) d (λ (z : _≡_ {A = ℕ} 5 15). omega arith) (ietf-element 2 c) list in
+    let same : (k : ℕ) → (258 ≡ k → ⊥) → contents k (p .found ++ (record { kind = 258; content = word ++ content } ∷ found)) ≡ contents k (p .found ++ (record { kind = 258; content = other ++ content } ∷ found)) =
+    elsewhere (p .found) found 258 (word ++ content) (other ++ content) in
+    replaced before p _ _ _ _ b (lists l h (word ++ content) d) (lists l′ h′ (other ++ content) d′)
+    (λ says. record {
+      synchronization = (says .synchronization .0, sym (same 26 (λ (z : _≡_ {A = ℕ} 258 26). omega arith)) ∙ says .synchronization .1, says .synchronization .2);
+      timeslot = (says .timeslot .0, sym (same 28 (λ (z : _≡_ {A = ℕ} 258 28). omega arith)) ∙ says .timeslot .1, says .timeslot .2);
+      hopping = (says .hopping .0, sym (same 137 (λ (z : _≡_ {A = ℕ} 258 137). omega arith)) ∙ says .hopping .1, says .hopping .2);
+      slotframe = (says .slotframe .0, sym (same 27 (λ (z : _≡_ {A = ℕ} 258 27). omega arith)) ∙ says .slotframe .1, says .slotframe .2);
+      joining = rw (here (p .found) found 258 (other ++ content)) (joining-changed word other content four four′ top low _ _ (says .joining) (contents 258 (p .found)) (contents 258 found) (here (p .found) found 258 (word ++ content)));
+    }) short
+
+-- ---- the two forms of timings
+other-timings : (c : List ℕ) (t u : TimeslotTemplate) → TimeslotContent c t → TimeslotContent c u → t ≡ u
+other-timings c t u one other = let h = stands-whole c c refl in timeslot-value c 0 c t one h ∙ sym (timeslot-value c 0 c u other h)
+
+timings-changed : (h f : List Element) (c d : List ℕ) (u : TimeslotTemplate) (b : Beacon) → TimeslotContent c u → TimeslotContent d u → Says (h ++ (record { kind = 28; content = c } ∷ f)) b → Says (h ++ (record { kind = 28; content = d } ∷ f)) b
+timings-changed h f c d u b was is says =
+    let same : (k : ℕ) → (28 ≡ k → ⊥) → contents k (h ++ (record { kind = 28; content = c } ∷ f)) ≡ contents k (h ++ (record { kind = 28; content = d } ∷ f)) = elsewhere h f 28 c d in
+    let one = only-one (says .timeslot .0) c d (contents 28 h) (contents 28 f) (sym (here h f 28 c) ∙ says .timeslot .1) in
+    let t-is : u ≡ b .timeslot = other-timings c u (b .timeslot) was (rw (one .0) (says .timeslot .2)) in
+    record {
+      synchronization = (says .synchronization .0, sym (same 26 (λ (z : _≡_ {A = ℕ} 28 26). omega arith)) ∙ says .synchronization .1, says .synchronization .2);
+      timeslot = (d, here h f 28 d ∙ one .1, subst (λ t. TimeslotContent d t) t-is is);
+      hopping = (says .hopping .0, sym (same 137 (λ (z : _≡_ {A = ℕ} 28 137). omega arith)) ∙ says .hopping .1, says .hopping .2);
+      slotframe = (says .slotframe .0, sym (same 27 (λ (z : _≡_ {A = ℕ} 28 27). omega arith)) ∙ says .slotframe .1, says .slotframe .2);
+      joining = rw (← same 258 (λ (z : _≡_ {A = ℕ} 28 258). omega arith)) (says .joining);
+    }
+
+regroup : (h u : List Element) (x : Element) (v f : List Element) → h ++ ((u ++ (x ∷ v)) ++ f) ≡ (h ++ u) ++ (x ∷ (v ++ f))
+regroup h u x v f = ap (λ (l : List Element). h ++ l) (append-assoc u (x ∷ v) f) ∙ sym (append-assoc h u (x ∷ (v ++ f)))
+
+pub both-timing-forms-say-the-same : BothTimingFormsSayTheSame
+both-timing-forms-say-the-same before one two rest narrow wide timings _ _ group other id u v found b p row row′ (one-sub-element l h d) (one-sub-element l′ h′ d′) first second ones twos list short short′ =
+    let t : TimeslotTemplate = record { id = id; timed = true; timings = timings } in
+    let lists = group-list _ group rest _ found first (subs-append one _ u _ ones (sub-element l h 28 (id ∷ narrow) d twos)) list in
+    let lists′ = group-list _ other rest _ found second (subs-append one _ u _ ones (sub-element l′ h′ 28 (id ∷ wide) d′ twos)) list in
+    let changed : (c d : List ℕ) → TimeslotContent c t → TimeslotContent d t → Says (p .found ++ ((u ++ (record { kind = 28; content = c } ∷ v)) ++ found)) b → Says (p .found ++ ((u ++ (record { kind = 28; content = d } ∷ v)) ++ found)) b =
+    λ c d was is says. rw (regroup (p .found) u (record { kind = 28; content = d }) v found) (timings-changed (p .found ++ u) (v ++ found) c d t b was is (rw (regroup (p .found) u (record { kind = 28; content = c }) v found) at says)) in (
+      replaced before p _ _ _ _ b lists lists′ (changed _ _ (timed-25 id row) (timed-27 id row′)) short′,
+      replaced before p _ _ _ _ b lists′ lists (changed _ _ (timed-27 id row′) (timed-25 id row)) short,
+    )

@@ -1,0 +1,73 @@
+-- The bytes at a place as a list of their own: the bridge from places to a grammar and back. Assumes nothing.
+use Prim.Native.Nat.{ℕ, zero, suc, _+_, _-_, _≤_}
+use mathlib.Core.Path.{_≡_, refl, ap}
+use mathlib.Core.List.{List, [], _∷_, _++_}
+use native.Mathlib.Omega.{arith}
+use lib.ListN.{length, getD}
+use Rattle.octets_spec.specs.Number.{leAt, beAt}
+use Rattle.eb_grammar_spec.proofs.Stands.{Stands}
+use Rattle.eb_grammar_spec.specs.Row.{le, be}
+
+unfoldable pub part : List ℕ → ℕ → ℕ → List ℕ
+part s at zero = []
+part s at (suc n) = getD s at 0 ∷ part s (suc at) n
+
+module _ (s : List ℕ) where
+  pub length-part : (at n : ℕ) → length (part s at n) ≡ n
+  unfolding part
+  length-part at zero = refl
+  length-part at (suc n) = ap suc (length-part (suc at) n)
+
+  pub part-at : (at i n k : ℕ) → at ≡ i → n ≡ k → part s at n ≡ part s i k
+  part-at at i n k e f = rw (e, f)
+
+  pub part-cons : (at n : ℕ) → part s at (suc n) ≡ getD s at 0 ∷ part s (at + 1) n
+  unfolding part
+  part-cons at n = let one : at + 1 ≡ suc at = omega arith in rw (one, part)
+
+  pub part-append : (at m n : ℕ) → part s at (m + n) ≡ part s at m ++ part s (at + m) n
+  unfolding part
+  part-append at zero n = part-at at (at + 0) (0 + n) n (omega arith) (omega arith)
+  part-append at (suc m) n =
+      let e : suc m + n ≡ suc (m + n) = omega arith in
+      let f : at + suc m ≡ suc at + m = omega arith in
+      rw (e, f, part) (ap (λ (xs : List ℕ). getD s at 0 ∷ xs) (part-append (suc at) m n))
+
+  pub stands-part : (at n : ℕ) → at + n ≤ length s → Stands s at (part s at n)
+  unfolding part Stands
+  stands-part at zero h = omega arith
+  stands-part at (suc n) h = (refl, stands-part (suc at) n (omega arith))
+
+  pub part-stands : (at : ℕ) (xs : List ℕ) → Stands s at xs → xs ≡ part s at (length xs)
+  unfolding part Stands
+  part-stands at [] h = refl
+  part-stands at (x ∷ xs) h = rw (h .0, ← part-stands (suc at) xs (h .1))
+
+  pub le-stands : (at : ℕ) (xs : List ℕ) → Stands s at xs → le xs ≡ leAt (length xs) s at
+  unfolding le leAt Stands
+  le-stands at [] h = refl
+  le-stands at (x ∷ xs) h = let one : at + 1 ≡ suc at = omega arith in rw (leAt, one, h .0, le-stands (suc at) xs (h .1))
+
+  pub be-stands : (at : ℕ) (xs : List ℕ) → Stands s at xs → be xs ≡ beAt (length xs) s at
+  unfolding be beAt Stands
+  be-stands at [] h = refl
+  be-stands at (x ∷ xs) h = let one : at + 1 ≡ suc at = omega arith in rw (beAt, one, h .0, be-stands (suc at) xs (h .1))
+
+  pub le-part : (n at : ℕ) → le (part s at n) ≡ leAt n s at
+  unfolding part le leAt
+  le-part zero at = refl
+  le-part (suc n) at = let one : at + 1 ≡ suc at = omega arith in rw (leAt, one, le-part n (suc at))
+
+  pub be-part : (n at : ℕ) → be (part s at n) ≡ beAt n s at
+  unfolding part be beAt
+  be-part zero at = refl
+  be-part (suc n) at = let one : at + 1 ≡ suc at = omega arith in rw (beAt, one, be-part n (suc at), length-part (suc at) n)
+
+  -- an element: its two descriptor bytes, its content, and what stands behind it
+  pub part-element : (at size to : ℕ) → at + 2 + size ≤ to → part s at (to - at) ≡ getD s at 0 ∷ getD s (at + 1) 0 ∷ (part s (at + 2) size ++ part s (at + 2 + size) (to - (at + 2 + size)))
+  unfolding part
+  part-element at size to h =
+      let e : to - at ≡ suc (suc (size + (to - (at + 2 + size)))) = omega arith in
+      let one : suc at ≡ at + 1 = omega arith in
+      let two : suc (at + 1) ≡ at + 2 = omega arith in
+      rw (e, part, one, two) (ap (λ (xs : List ℕ). getD s at 0 ∷ getD s (at + 1) 0 ∷ xs) (part-append (at + 2) size _))
