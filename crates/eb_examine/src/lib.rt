@@ -16,17 +16,12 @@ pub mod policy;
 fn walk_start(head: HeaderListEnd) -> Walk
     ensures { λ r. ⌜ r ≡ walkStart head ⌝ }
 {
+    let blank = ie_walk::payload_list::blank_walk();
     Walk {
         fault: head.fault,
         faulty: head.faulty,
         skipped: head.skipped,
-        synchronization: 0,
-        timeslot: 0,
-        timeslotend: 0,
-        hopping: 0,
-        slotframe: 0,
-        joining: 0,
-        joiningend: 0,
+        ..blank
     }
 }
 

@@ -20,7 +20,7 @@ use Rattle.ie_step_spec.specs.declared.OuterStep.{OuterStep}
 use Rattle.ie_step_spec.specs.declared.OuterStep.the-variants as outer
 use Rattle.ie_step_spec.specs.declared.InnerStep.{InnerStep}
 use Rattle.ie_step_spec.specs.declared.InnerStep.the-variants as inner
-use Rattle.ie_walk_spec.specs.Walk.{blankWalk, seenOf, skipOne, taken, stopped, partTaken, outerGo, groupGo, payloadList}
+use Rattle.ie_walk_spec.specs.Walk.{blankWalk, besides, seenOf, skipOne, taken, stopped, partTaken, outerGo, groupGo, payloadList}
 use Rattle.ie_walk_spec.specs.declared.Walk.{Walk}
 use Rattle.ie_walk_spec.specs.declared.HeaderListEnd.{HeaderListEnd}
 use Rattle.mac_header_spec.specs.Fields.{offsetsOf, macHeaderOf}
@@ -170,8 +170,7 @@ module _ (s : List ℕ) (end : ℕ) where
 
   module _ (w : Walk) (h : Noted s end w) where
     -- what a walk notes besides its elements does not matter
-    noted-besides : (fault faulty skipped : ℕ)
-        → Noted s end (record { fault = fault; faulty = faulty; skipped = skipped; synchronization = w .synchronization; timeslot = w .timeslot; timeslotend = w .timeslotend; hopping = w .hopping; slotframe = w .slotframe; joining = w .joining; joiningend = w .joiningend })
+    noted-besides : (fault faulty skipped : ℕ) → Noted s end (besides w fault faulty skipped)
     noted-besides fault faulty skipped = record {
       slotframe = h .slotframe;
       timeslot = h .timeslot;

@@ -14,7 +14,7 @@ use Rattle.mac_header_spec.specs.Control.{controlOf}
 use Rattle.mac_header_spec.specs.Fields.{offsetsOf, macHeaderOf}
 use Rattle.mac_header_spec.specs.declared.Control.{Control}
 use Rattle.mac_header_spec.specs.declared.FieldOffsets.{FieldOffsets}
-use Rattle.ie_walk_spec.specs.Walk.{blankWalk, headerList, skippedOver, payloadList}
+use Rattle.ie_walk_spec.specs.Walk.{blankWalk, besides, headerList, skippedOver, payloadList}
 use Rattle.ie_walk_spec.specs.declared.Walk.{Walk}
 use Rattle.ie_walk_spec.specs.declared.HeaderListEnd.{HeaderListEnd}
 use Rattle.eb_read_spec.specs.Policy.{macHeaderFault}
@@ -24,12 +24,11 @@ use Rattle.eb_read_spec.specs.declared.Examination.{Examination}
 use Rattle.eb_read_spec.proofs.Skipped.{head-counts, counts-fit}
 use Rattle.eb_read_spec.proofs.Numbers.{at-most-8, elements-small, late-small}
 
-pub heads : (head : HeaderListEnd) → record { fault = head .fault; faulty = head .faulty; skipped = head .skipped; synchronization = 0; timeslot = 0; timeslotend = 0; hopping = 0; slotframe = 0; joining = 0; joiningend = 0 } ≡ walkStart head
+pub heads : (blank : Walk) (head : HeaderListEnd) → blank ≡ blankWalk → besides blank (head .fault) (head .faulty) (head .skipped) ≡ walkStart head
 unfolding walkStart
-heads head = refl
+heads blank head e = rw e
 
-pub behinds : (count : ℕ) (w : Walk)
-    → record { fault = w .fault; faulty = w .faulty; skipped = count + w .skipped; synchronization = w .synchronization; timeslot = w .timeslot; timeslotend = w .timeslotend; hopping = w .hopping; slotframe = w .slotframe; joining = w .joining; joiningend = w .joiningend } ≡ skippedBefore count w
+pub behinds : (count : ℕ) (w : Walk) → besides w (w .fault) (w .faulty) (count + w .skipped) ≡ skippedBefore count w
 unfolding skippedBefore
 behinds count w = refl
 
@@ -131,6 +130,9 @@ module _ (s : List ℕ) (x : Examination) (e : x ≡ examined s) where
   read-done b good f = rw (← e) (if-eq _ _ _ _ good (rw f))
 
 pub ruleset starting = (heads, behinds)
+
 pub ruleset following = (counts-fit, header-faulty, header-only, header-and-payload, starts-are, ends-are, behind-at, list-at)
+
 pub ruleset judging = (some-missing, none-missing, faulty, faultless)
+
 pub ruleset examining = (head-counts, elements-are, walk-small, examined-mac-header, examined-walk, unexamined, refused-walk, accepted-walk)

@@ -6,7 +6,7 @@ use Rattle.octets_spec.specs.Choice.{ifEq, ifNe}
 use Rattle.refusal.specs.Refusal.{done, missingOrTwice}
 use Rattle.eb_record_spec.specs.Record.{blankBeacon}
 use Rattle.mac_header_spec.specs.Fields.{macHeaderOf}
-use Rattle.ie_walk_spec.specs.Walk.{blankWalk, headerList, skippedOver, payloadList}
+use Rattle.ie_walk_spec.specs.Walk.{blankWalk, besides, headerList, skippedOver, payloadList}
 use Rattle.ie_walk_spec.specs.declared.Walk.{Walk}
 use Rattle.ie_walk_spec.specs.declared.HeaderListEnd.{HeaderListEnd}
 use Rattle.eb_read_spec.specs.Policy.{macHeaderFault}
@@ -16,33 +16,11 @@ use Rattle.eb_read_spec.specs.declared.ReadAnswer.{ReadAnswer}
 
 -- where the walk begins behind the header list: no element is noted
 unfoldable pub walkStart : HeaderListEnd → Walk
-walkStart head = record {
-  fault = head .fault;
-  faulty = head .faulty;
-  skipped = head .skipped;
-  synchronization = 0;
-  timeslot = 0;
-  timeslotend = 0;
-  hopping = 0;
-  slotframe = 0;
-  joining = 0;
-  joiningend = 0;
-}
+walkStart head = besides blankWalk (head .fault) (head .faulty) (head .skipped)
 
 -- a walk with the elements counted that were skipped before it
 unfoldable pub skippedBefore : ℕ → Walk → Walk
-skippedBefore count walk = record {
-  fault = walk .fault;
-  faulty = walk .faulty;
-  skipped = count + walk .skipped;
-  synchronization = walk .synchronization;
-  timeslot = walk .timeslot;
-  timeslotend = walk .timeslotend;
-  hopping = walk .hopping;
-  slotframe = walk .slotframe;
-  joining = walk .joining;
-  joiningend = walk .joiningend;
-}
+skippedBefore count walk = besides walk (walk .fault) (walk .faulty) (count + walk .skipped)
 
 -- behind a header list: the payload list, if one follows
 unfoldable pub behindHeader : List ℕ → HeaderListEnd → ℕ → Walk

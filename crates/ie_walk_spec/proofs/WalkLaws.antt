@@ -8,7 +8,7 @@ use Rattle.octets_spec.specs.Choice.{ifEq}
 use Rattle.octets_spec.proofs.ChoiceLaws.{if-eq, if-ne, either-eq, choices}
 use Rattle.ie_verdict_spec.specs.Verdict.{partFault}
 use Rattle.ie_verdict_spec.specs.declared.Seen.{Seen}
-use Rattle.ie_walk_spec.specs.Walk.{blankWalk, seenOf, skipOne, taken, stopped, partTaken}
+use Rattle.ie_walk_spec.specs.Walk.{blankWalk, besides, seenOf, skipOne, taken, stopped, partTaken}
 use Rattle.ie_walk_spec.specs.declared.Walk.{Walk}
 
 -- ---- notes
@@ -21,12 +21,11 @@ module _ (w : Walk) where
   unfolding seenOf
   seens = refl
 
-  pub skips : record { fault = w .fault; faulty = w .faulty; skipped = w .skipped + 1; synchronization = w .synchronization; timeslot = w .timeslot; timeslotend = w .timeslotend; hopping = w .hopping; slotframe = w .slotframe; joining = w .joining; joiningend = w .joiningend } ≡ skipOne w
+  pub skips : besides w (w .fault) (w .faulty) (w .skipped + 1) ≡ skipOne w
   unfolding skipOne
   skips = refl
 
-  pub stops : (fault at : ℕ)
-      → record { fault = fault; faulty = at; skipped = w .skipped; synchronization = w .synchronization; timeslot = w .timeslot; timeslotend = w .timeslotend; hopping = w .hopping; slotframe = w .slotframe; joining = w .joining; joiningend = w .joiningend } ≡ stopped w fault at
+  pub stops : (fault at : ℕ) → besides w fault at (w .skipped) ≡ stopped w fault at
   unfolding stopped
   stops fault at = refl
 

@@ -37,12 +37,12 @@ blankWalk = record {
 unfoldable pub seenOf : Walk → Seen
 seenOf walk = record { synchronization = walk .synchronization; timeslot = walk .timeslot; hopping = walk .hopping; slotframe = walk .slotframe; joining = walk .joining }
 
--- an element that is skipped is counted
-unfoldable pub skipOne : Walk → Walk
-skipOne walk = record {
-  fault = walk .fault;
-  faulty = walk .faulty;
-  skipped = walk .skipped + 1;
+-- a walk with another fault, another offset of it and another count; what it noted stays
+abbrev pub besides : Walk → ℕ → ℕ → ℕ → Walk
+besides walk fault faulty skipped = record {
+  fault = fault;
+  faulty = faulty;
+  skipped = skipped;
   synchronization = walk .synchronization;
   timeslot = walk .timeslot;
   timeslotend = walk .timeslotend;
@@ -51,6 +51,10 @@ skipOne walk = record {
   joining = walk .joining;
   joiningend = walk .joiningend;
 }
+
+-- an element that is skipped is counted
+unfoldable pub skipOne : Walk → Walk
+skipOne walk = besides walk (walk .fault) (walk .faulty) (walk .skipped + 1)
 
 -- an element without a fault is noted where it lies; one of an unknown kind is skipped
 unfoldable pub taken : Walk → ℕ → ℕ → ℕ → Walk
@@ -75,18 +79,7 @@ taken walk kind from to = record {
 
 -- the walk stops at a fault, whose element starts at `at`
 unfoldable pub stopped : Walk → ℕ → ℕ → Walk
-stopped walk fault at = record {
-  fault = fault;
-  faulty = at;
-  skipped = walk .skipped;
-  synchronization = walk .synchronization;
-  timeslot = walk .timeslot;
-  timeslotend = walk .timeslotend;
-  hopping = walk .hopping;
-  slotframe = walk .slotframe;
-  joining = walk .joining;
-  joiningend = walk .joiningend;
-}
+stopped walk fault at = besides walk fault at (walk .skipped)
 
 -- an element of some kind: noted if it has no fault, and else the walk stops there
 unfoldable pub partTaken : List ℕ → Walk → ℕ → ℕ → ℕ → ℕ → Walk
