@@ -53,7 +53,7 @@ record Found-in (s : List ℕ) (at : ℕ) (w : Walk) : Type 0 where
 
 module _ (s : List ℕ) (bytes : Bytes s) where
   elements-sound : (at : ℕ) → elementsWalk s at (length s) .fault ≡ 0 → (elementsWalk s at (length s) .synchronization ≡ 0 → ⊥) → Found-in s at (elementsWalk s at (length s))
-  unfolding elementsWalk behindHeader walkStart skippedOver skippedBefore
+  unfolding elementsWalk behindHeader walkStart blankWalk skippedOver skippedBefore
   elements-sound at =
       let head : HeaderList = headerList s at (length s) in
       let P : Walk → Type 0 = λ w. w .fault ≡ 0 → (w .synchronization ≡ 0 → ⊥) → Found-in s at w in
