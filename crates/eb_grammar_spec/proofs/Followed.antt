@@ -6,16 +6,16 @@ use mathlib.Core.Bool.{true}
 use mathlib.Core.List.{List, [], _∷_, _++_, append-nil, append-assoc}
 use mathlib.Core.Logic.{_⊎_, inl, inr, ⊎-elim}
 use native.Mathlib.Omega.{arith}
-use lib.ListN.{length, getD, length-append, replicate}
+use lib.ListN.{length, getD, length-append}
 use Rattle.octets_spec.proofs.ChoiceLaws.{if-eq, if-ne}
 use Rattle.mac_header_spec.specs.declared.SequenceNumber.{SequenceNumber}
 use Rattle.mac_header_spec.specs.declared.Address.{Address}
 use Rattle.eb_record_spec.specs.declared.TimeslotTemplate.{TimeslotTemplate}
 use Rattle.eb_record_spec.specs.declared.JoiningInformation.{JoiningInformation}
 use Rattle.eb_record_spec.specs.declared.Beacon.{Beacon}
-use Rattle.eb_grammar_spec.specs.Row.{le, be, bits, Row}
-use Rattle.eb_grammar_spec.specs.Grammar.{FrameControl, FixedFields, fixed-fields, Descriptor, HeaderElements, Element, SubElements, group-end, sub-element, Group, mlme, ietf-element, PayloadElements, bytes-end, payload-end, payload-element, TimeslotContent, timed-25, timed-27, JoiningContent, absent, joining, contents, Says, Accepts}
-use Rattle.eb_grammar_spec.specs.Follows.{Known, SameKnown, Before, OneElement, one-element, OneSubElement, one-sub-element, IgnoredBitsDoNotCount, HeaderElementsDoNotCount, NothingCountsBehind7F, KnownContentsCount, BytesBehindGroup15DoNotCount, UnknownElementsDoNotCount, UnknownSubElementsDoNotCount, OrderDoesNotCount, ReservedJoiningBitsDoNotCount, BothTimingFormsSayTheSame}
+use Rattle.eb_grammar_spec.specs.Row.{le, be, bits}
+use Rattle.eb_grammar_spec.specs.Grammar.{FrameControl, FixedFields, fixed-fields, Descriptor, HeaderElements, Element, SubElements, group-end, sub-element, mlme, ietf-element, PayloadElements, bytes-end, payload-end, payload-element, TimeslotContent, timed-25, timed-27, JoiningContent, absent, joining, contents, Says, Accepts}
+use Rattle.eb_grammar_spec.specs.Follows.{Known, SameKnown, Before, OneElement, one-element, one-sub-element, IgnoredBitsDoNotCount, HeaderElementsDoNotCount, NothingCountsBehind7F, KnownContentsCount, BytesBehindGroup15DoNotCount, UnknownElementsDoNotCount, UnknownSubElementsDoNotCount, OrderDoesNotCount, ReservedJoiningBitsDoNotCount, BothTimingFormsSayTheSame}
 use Rattle.eb_grammar_spec.proofs.Stands.{stands-whole}
 use Rattle.eb_grammar_spec.proofs.Notes.{contents-append}
 use Rattle.eb_grammar_spec.proofs.Timed.{timeslot-value}

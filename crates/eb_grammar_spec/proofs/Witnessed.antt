@@ -1,10 +1,10 @@
 -- Frames of the grammar: two at which the checker computes reading, and one that follows from another. Assumes nothing.
 use Prim.Native.Nat.{ℕ, zero, suc, _+_, _-_, _*_, _^_}
 use mathlib.Core.Path.{_≡_, refl, sym, _∙_, ap}
-use mathlib.Core.List.{List, [], _∷_, _++_}
+use mathlib.Core.List.{List, [], _∷_}
 use native.Mathlib.Omega.{arith}
 use lib.Dec.{T, lit<, lit≤, ltb, ltb→lt}
-use lib.ListN.{length, take, drop}
+use lib.ListN.{take, drop}
 use Rattle.octets_spec.specs.Choice.{ifOn, ifLt, ifEq}
 use Rattle.octets_spec.specs.Counted.{counted, padded}
 use Rattle.octets_spec.specs.Number.{leAt, beAt}

@@ -1,6 +1,6 @@
 -- The frames that are accepted, as a grammar: what stands behind what, by concatenation. It has no offsets, no bounds, no order of
 -- checks and no refusals; `Accepts`, at the end, is a frame and the record that it says (docs/RULES.md, The frame). Assumes nothing.
-use Prim.Native.Nat.{ℕ, suc, _+_, _-_, _*_, _^_, _<_, _≤_}
+use Prim.Native.Nat.{ℕ, _+_, _-_, _*_, _^_, _<_, _≤_}
 use mathlib.Core.Path.{_≡_}
 use mathlib.Core.Bool.{true, false}
 use mathlib.Core.List.{List, [], _∷_, _++_}

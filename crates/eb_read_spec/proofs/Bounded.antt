@@ -4,8 +4,7 @@ use native.Mathlib.Omega.{arith}
 use mathlib.Core.Path.{_≡_, refl, ap}
 use mathlib.Core.List.{List}
 use Rattle.octets_spec.specs.Choice.{ifEq}
-use Rattle.octets_spec.proofs.ChoiceLaws.{either-eq}
-use Rattle.ie_step_spec.specs.Header.{headerAt, headerWithin, headerWord}
+use Rattle.ie_step_spec.specs.Header.{headerAt, headerWithin}
 use Rattle.ie_step_spec.specs.Payload.{innerAt, innerWithin, outerAt, outerWithin}
 use Rattle.ie_step_spec.specs.declared.HeaderStep.{HeaderStep}
 use Rattle.ie_step_spec.specs.declared.HeaderStep.the-variants as header
@@ -16,7 +15,6 @@ use Rattle.ie_step_spec.specs.declared.OuterStep.the-variants as outer
 use Rattle.ie_walk_spec.specs.Walk.{inFront, groupGo, headerGo, outerGo, partTaken, skipOne}
 use Rattle.ie_walk_spec.specs.declared.Walk.{Walk}
 use Rattle.eb_read_spec.specs.Claims.{BoundsDoNotMatter}
-use Rattle.eb_read_spec.proofs.Each.{each-lt}
 use Rattle.eb_read_spec.proofs.Within.{header-within, inner-within, outer-within}
 
 -- ---- the header list

@@ -1,19 +1,18 @@
 -- When 3, 4 and 5 are given: the checks of frame control and of the destination alone give them. Assumes nothing.
-use Prim.Native.Nat.{ℕ, _<_, _≤_}
+use Prim.Native.Nat.{ℕ}
 use native.Mathlib.Omega.{arith}
-use mathlib.Core.Path.{_≡_, refl, sym, ap, subst, _∙_}
+use mathlib.Core.Path.{_≡_, refl, sym, subst, _∙_}
 use mathlib.Core.List.{List}
 use mathlib.Core.Logic.{_⊎_, ⊎-elim, inl, inr}
 use lib.ListN.{length}
 use lib.Dec.{eqb}
 use borrow.Author.Tests.{eqb-false, eqb-true}
-use Rattle.octets_spec.specs.Number.{leAt}
 use Rattle.octets_spec.proofs.ChoiceLaws.{by-lt, by-test, either-eq, either-lt, if-eq, if-ge, if-lt, if-ne, was-ge, was-ne}
 use Rattle.mac_header_spec.specs.Fields.{macHeaderOf}
 use Rattle.mac_header_spec.specs.declared.Control.{Control}
 use Rattle.eb_read_spec.specs.Policy.{formFault, policyFault, macHeaderFault}
 use Rattle.eb_read_spec.specs.Claims.{AnotherDestination, FiveIsTheAddressing, FourIsSecurity, HasControl, IsAddressed, IsBeacon, ThreeIsTheType}
-use Rattle.eb_read_spec.specs.Read.{elementsWalk, examined, readFrame, walkNumber}
+use Rattle.eb_read_spec.specs.Read.{examined, readFrame}
 use Rattle.eb_read_spec.specs.declared.Examination.{Examination}
 use Rattle.eb_read_spec.proofs.PolicyLaws.{bad-form, no-broadcast, no-control, too-long}
 use Rattle.eb_read_spec.proofs.Claimed.{number-of}

@@ -19,7 +19,6 @@ use Rattle.ie_step_spec.specs.declared.InnerStep.{InnerStep}
 use Rattle.ie_step_spec.specs.declared.InnerStep.the-variants as inner
 use Rattle.ie_walk_spec.specs.Walk.{blankWalk, inFront, skippedOver, seenOf, skipOne, taken, stopped, partTaken, headerGo, headerList, outerGo, groupGo, payloadList}
 use Rattle.ie_walk_spec.specs.declared.Walk.{Walk}
-use Rattle.mac_header_spec.specs.declared.MacHeader.{MacHeader}
 use Rattle.mac_header_spec.specs.Fields.{macHeaderOf}
 use Rattle.eb_read_spec.specs.Policy.{formFault, policyFault, macHeaderFault}
 use Rattle.eb_read_spec.specs.declared.Examination.{Examination}

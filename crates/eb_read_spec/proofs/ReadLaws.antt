@@ -7,7 +7,7 @@ use lib.Dec.{eqb}
 use lib.ListN.{length}
 use Rattle.octets_spec.specs.Choice.{ifEq}
 use Rattle.octets_spec.specs.Number.{leAt}
-use Rattle.octets_spec.proofs.ChoiceLaws.{if-eq, if-ne, choices}
+use Rattle.octets_spec.proofs.ChoiceLaws.{if-eq, if-ne}
 use Rattle.eb_record_spec.specs.Record.{blankBeacon}
 use Rattle.eb_record_spec.specs.declared.Beacon.{Beacon}
 use Rattle.mac_header_spec.specs.Control.{controlOf}

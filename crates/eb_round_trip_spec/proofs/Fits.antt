@@ -1,7 +1,7 @@
 -- What a frame of the grammar says is within the limits of writing, and needs no more bytes than it was said in: part by part. Assumes nothing.
-use Prim.Native.Nat.{ℕ, zero, suc, _+_, _-_, _*_, _/_, _%_, _^_, _<_, _≤_}
+use Prim.Native.Nat.{ℕ, _+_, _-_, _*_, _/_, _^_, _<_, _≤_}
 use mathlib.Core.Path.{_≡_, refl, sym, _∙_, ap}
-use mathlib.Core.Bool.{Bool, true, false}
+use mathlib.Core.Bool.{true}
 use mathlib.Core.List.{List, [], _∷_, _++_}
 use native.Mathlib.Nat.{mod-lt}
 use native.Mathlib.Omega.{arith}
@@ -9,7 +9,7 @@ use borrow.Author.Tests.{lt-ltb, eq-eqb, eqb-true, eqb-false}
 use lib.Dec.{lit<, eqb, ltb}
 use lib.ListN.{length, take, drop, replicate, length-append, length-replicate}
 use lib.Seq.{take-at, drop-at}
-use Rattle.octets_spec.specs.Choice.{ifOn, ifLt}
+use Rattle.octets_spec.specs.Choice.{ifOn}
 use Rattle.octets_spec.proofs.ChoiceLaws.{if-lt, either-lt, by-test}
 use Rattle.eb_record_spec.specs.Record.{blankLink}
 use Rattle.eb_record_spec.specs.Form.{sourceFits}

@@ -2,7 +2,6 @@
 use Prim.Native.Nat.{ℕ, _<_, _≤_}
 use mathlib.Core.Path.{_≡_, refl, sym, _∙_, ap}
 use mathlib.Core.Bool.{true, and-false}
-use mathlib.Core.List.{List}
 use native.Mathlib.Omega.{arith}
 use lib.ListN.{length}
 use Rattle.octets_spec.proofs.ChoiceLaws.{if-on, if-eq, if-ne}
@@ -21,7 +20,7 @@ use Rattle.eb_read_spec.specs.Read.{readFrame}
 use Rattle.eb_read_spec.specs.declared.ReadAnswer.{ReadAnswer}
 use Rattle.eb_read_spec.specs.Witnesses.{shortest}
 use Rattle.eb_read_spec.proofs.Witnessed.{shortest-is-read, shortest-done, shortest-bytes}
-use Rattle.eb_round_trip_spec.specs.ReadBack.{Sized, FormsReadBack}
+use Rattle.eb_round_trip_spec.specs.ReadBack.{FormsReadBack}
 use Rattle.eb_round_trip_spec.specs.Accepted.{AcceptedReadsBack, ReadFormsAreWritten, ShortestFormIsWritten}
 use Rattle.eb_round_trip_spec.proofs.ReadsBack.{frames-read-back}
 use Rattle.eb_round_trip_spec.proofs.NotLonger.{accepted-fits, read-sized, written-is-not-longer, written-is-short}

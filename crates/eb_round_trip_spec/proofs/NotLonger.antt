@@ -1,15 +1,15 @@
 -- Every record that a frame of the grammar says can be written, in at most as many bytes: the elements of a payload list take no more bytes
 -- than it has, and each is written in at most the bytes that it was read from. Assumes nothing.
-use Prim.Native.Nat.{ℕ, suc, _+_, _*_, _^_, _<_, _≤_, min}
-use mathlib.Core.Path.{_≡_, refl, sym, _∙_, ap}
-use mathlib.Core.Bool.{true, false}
+use Prim.Native.Nat.{ℕ, _+_, _^_, _<_, _≤_, min}
+use mathlib.Core.Path.{_≡_, refl, _∙_, ap}
+use mathlib.Core.Bool.{true}
 use mathlib.Core.List.{List, [], _∷_, _++_}
 use native.Mathlib.Omega.{arith}
-use borrow.Author.Tests.{lt-ltb, eqb-true}
+use borrow.Author.Tests.{lt-ltb}
 use lib.Dec.{eqb}
 use lib.ListN.{length, getD, length-append}
 use Rattle.octets_spec.specs.Choice.{ifLt, ifEq}
-use Rattle.octets_spec.proofs.ChoiceLaws.{if-lt, if-ge, by-test, by-lt, either-eq}
+use Rattle.octets_spec.proofs.ChoiceLaws.{if-lt, if-ge, by-test}
 use Rattle.eb_record_spec.specs.declared.Beacon.{Beacon}
 use Rattle.eb_read_spec.specs.Claims.{Bytes}
 use Rattle.eb_read_spec.specs.Read.{readFrame}

@@ -2,7 +2,7 @@
 use Prim.Native.Nat.{ℕ, zero, suc, _/_, _%_, _^_, _<_}
 use mathlib.Core.Path.{_≡_, refl, sym, _∙_, ap}
 use mathlib.Core.Bool.{Bool, true, false, and-eq-true-iff}
-use mathlib.Core.List.{List, [], _∷_, _++_}
+use mathlib.Core.List.{List, [], _∷_}
 use native.Mathlib.Omega.{arith}
 use lib.Dec.{ltb}
 use lib.ListN.{take}
@@ -19,7 +19,6 @@ use Rattle.eb_record_spec.specs.declared.JoiningInformation.{JoiningInformation
 use Rattle.eb_record_spec.specs.declared.Beacon.{Beacon}
 use Rattle.eb_write_spec.specs.Frame.{sequenceBytes, sourceBytes, macHeaderBytes, headerDescriptor, groupDescriptor, shortDescriptor, longDescriptor, numbersIn, synchronizationBytes, timingsBytes, templateBytes, hoppingBytes, linkBytes, linksBytes, slotframeBytes, groupBytes, joiningBytes, frameOf}
 use Rattle.eb_write_spec.specs.Limits.{allBelow, addressFits, presentFits, absentFits, joiningFits, fits}
-use Rattle.eb_read_spec.specs.Claims.{Bytes}
 use Rattle.eb_read_spec.specs.Read.{readFrame}
 use Rattle.eb_read_spec.specs.declared.ReadAnswer.{ReadAnswer}
 use Rattle.eb_round_trip_spec.proofs.Fitting.{on-on}

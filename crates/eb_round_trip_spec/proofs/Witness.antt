@@ -1,7 +1,5 @@
 -- The frame of 38 bytes, which is accepted, is written back as it was received: the checker computes it. Assumes nothing.
-use Prim.Native.Nat.{ℕ}
 use mathlib.Core.Path.{_≡_, refl}
-use mathlib.Core.List.{List}
 use Rattle.octets_spec.specs.Choice.{ifOn, ifLt}
 use Rattle.octets_spec.specs.Number.{leBytes, beBytes}
 use Rattle.eb_read_spec.specs.Witnesses.{shortest, shortestRecord}

@@ -1,12 +1,12 @@
 -- The laws of the MAC header's fields, in the shape in which the code meets them. Assumes nothing.
-use Prim.Native.Nat.{ℕ, _+_, _<_, _≤_, _/_, _%_}
+use Prim.Native.Nat.{ℕ, _+_, _<_, _/_, _%_}
 use mathlib.Core.Path.{_≡_, refl}
 use mathlib.Core.Bool.{Bool, true, false, cond}
 use mathlib.Core.List.{List}
 use native.Mathlib.Omega.{arith}
 use mir.Syntax.{w8}
 use mir.Val.{Fits}
-use lib.Dec.{eqb, lit≤, lit<}
+use lib.Dec.{eqb, lit<}
 use lib.ListN.{length, getD}
 use Rattle.octets_spec.specs.Choice.{ifEq}
 use Rattle.octets_spec.specs.Number.{leAt}
@@ -15,7 +15,6 @@ use Rattle.mac_header_spec.specs.Control.{controlOf}
 use Rattle.mac_header_spec.specs.Fields.{addressLength, offsetsOf, macHeaderOf}
 use Rattle.mac_header_spec.specs.declared.Control.{Control}
 use Rattle.mac_header_spec.specs.declared.FieldOffsets.{FieldOffsets}
-use Rattle.mac_header_spec.specs.declared.MacHeader.{MacHeader}
 
 pub controls : (word : ℕ) → record { kind = word % 8; security = word / 8 % 2; compression = word / 64 % 2; suppressed = word / 256 % 2; elements = word / 512 % 2; destination = word / 1024 % 4; version = word / 4096 % 4; source = word / 16384 % 4 } ≡ controlOf word
 unfolding controlOf

@@ -54,19 +54,5 @@ returns-3 c = search needs
 pub read-frame-spec : {M : Type 1} → statement M
 read-frame-spec =
     tie.close
-    (tie.spec
-    Inv-loop
-    μ-loop
-    loop-holds
-    read-byte-requires
-    same-length
-    returns
-    cast-result
-    same-length-2
-    returns-2
-    add-length
-    loop-less
-    loop-again
-    cast-result-2
-    same-length-3
-    returns-3)
+    (tie.spec Inv-loop μ-loop loop-holds read-byte-requires same-length returns cast-result same-length-2
+    returns-2 add-length loop-less loop-again cast-result-2 same-length-3 returns-3)

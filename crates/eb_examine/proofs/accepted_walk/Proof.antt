@@ -34,13 +34,5 @@ returns-3 c = search (needs, examining)
 pub accepted-walk-spec : {M : Type 1} → statement M
 accepted-walk-spec =
     tie.close
-    (tie.spec
-    mac-header-fault-requires
-    blank-walk-requires
-    returns
-    header-list-requires
-    behind-header-requires
-    walk-number-requires
-    blank-walk-requires-2
-    returns-2
-    returns-3)
+    (tie.spec mac-header-fault-requires blank-walk-requires returns header-list-requires behind-header-requires
+    walk-number-requires blank-walk-requires-2 returns-2 returns-3)

@@ -31,12 +31,5 @@ returns-3 c = search (needs, following)
 pub behind-header-spec : {M : Type 1} → statement M
 behind-header-spec =
     tie.close
-    (tie.spec
-    walk-start-requires
-    returns
-    walk-start-requires-2
-    returns-2
-    field-offsets-requires
-    payload-list-requires
-    skipped-before-requires
-    returns-3)
+    (tie.spec walk-start-requires returns walk-start-requires-2 returns-2 field-offsets-requires
+    payload-list-requires skipped-before-requires returns-3)

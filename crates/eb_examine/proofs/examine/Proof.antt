@@ -29,11 +29,5 @@ returns-2 c = (search (needs, examining), accepted-lies-inside)
 pub examine-spec : {M : Type 1} → statement M
 examine-spec =
     tie.close
-    (tie.spec
-    mac-header-fault-requires
-    blank-walk-requires
-    returns
-    header-list-requires
-    behind-header-requires
-    walk-number-requires
-    returns-2)
+    (tie.spec mac-header-fault-requires blank-walk-requires returns header-list-requires behind-header-requires
+    walk-number-requires returns-2)

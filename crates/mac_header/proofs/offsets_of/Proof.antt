@@ -28,11 +28,5 @@ returns c = search (needs, controlling) depth 12
 pub offsets-of-spec : {M : Type 1} → statement M
 offsets-of-spec =
     tie.close
-    (tie.spec
-    pan-offset-requires
-    add-destination
-    address-length-requires
-    add-source
-    address-length-requires-2
-    add-t7
-    returns)
+    (tie.spec pan-offset-requires add-destination address-length-requires add-source address-length-requires-2
+    add-t7 returns)

@@ -40,15 +40,5 @@ returns c = search (needs, controlling) depth 12
 pub read-spec : {M : Type 1} → statement M
 read-spec =
     tie.close
-    (tie.spec
-    le-requires
-    control-of-requires
-    offsets-of-requires
-    byte-requires
-    choose-requires
-    cast-t10
-    le-requires-2
-    cast-t12
-    address-requires
-    address-requires-2
-    returns)
+    (tie.spec le-requires control-of-requires offsets-of-requires byte-requires choose-requires cast-t10
+    le-requires-2 cast-t12 address-requires address-requires-2 returns)

@@ -1,7 +1,6 @@
 -- `nbr_replay::run` meets its contract. The invariant: table and counts are what the rows passed come to. Assumes nothing.
 use Prim.Native.Nat.{_-_, _≤_}
 use lib.ListN.{length}
-use native.Mathlib.Omega.{arith}
 use Rattle.nbr_replay_spec.specs.Log.{log}
 use Rattle.nbr_replay_spec.proofs.ReplayLaws.{Ran, ran-kept, ran-long, ran-room, ran-sound, ran-stored, runWays}
 use borrow.Author.Needs.{needs}

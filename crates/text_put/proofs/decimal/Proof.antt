@@ -25,10 +25,4 @@ returns c = search (needs, texts)
 pub decimal-spec : {M : Type 1} → statement M
 decimal-spec =
     tie.close
-    (tie.spec
-    decimal-requires
-    array-share-prefix-digits
-    slice-aggregate-text
-    text-requires
-    same-length
-    returns)
+    (tie.spec decimal-requires array-share-prefix-digits slice-aggregate-text text-requires same-length returns)

@@ -25,10 +25,4 @@ returns c = search (needs, texts)
 pub hex-spec : {M : Type 1} → statement M
 hex-spec =
     tie.close
-    (tie.spec
-    hex-requires
-    array-share-prefix-space
-    slice-aggregate-text
-    text-requires
-    same-length
-    returns)
+    (tie.spec hex-requires array-share-prefix-space slice-aggregate-text text-requires same-length returns)

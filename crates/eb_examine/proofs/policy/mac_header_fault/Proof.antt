@@ -40,15 +40,5 @@ returns-6 c = search (needs, policies) depth 12
 pub mac-header-fault-spec : {M : Type 1} → statement M
 mac-header-fault-spec =
     tie.close
-    (tie.spec
-    returns
-    returns-2
-    le-requires
-    control-of-requires
-    form-fault-requires
-    returns-3
-    offsets-of-requires
-    returns-4
-    le-requires-2
-    returns-5
-    returns-6)
+    (tie.spec returns returns-2 le-requires control-of-requires form-fault-requires returns-3
+    offsets-of-requires returns-4 le-requires-2 returns-5 returns-6)

@@ -53,19 +53,5 @@ returns-3 c = search (needs, header-lists)
 pub header-list-spec : {M : Type 1} → statement M
 header-list-spec =
     tie.close
-    (tie.spec
-    Inv-loop
-    μ-loop
-    loop-holds
-    header-step-requires
-    enum-told
-    returns
-    enum-known-from
-    returns-2
-    enum-known-to
-    add-skipped
-    loop-less
-    loop-again
-    enum-known-number
-    cast-t10
-    returns-3)
+    (tie.spec Inv-loop μ-loop loop-holds header-step-requires enum-told returns enum-known-from returns-2
+    enum-known-to add-skipped loop-less loop-again enum-known-number cast-t10 returns-3)

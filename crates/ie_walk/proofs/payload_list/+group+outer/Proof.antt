@@ -169,70 +169,17 @@ outer-returns-4 : (t : ℕ) → outer-lts.Need-returns-4 (outer-calls t) (outer-
 outer-returns-4 t c = search (needs, lists)
 
 pub +group+outer-spec : {M : Type 1} → statement M
-+group+outer-spec = close μ-group μ-outer (λ t. group-lts.spec (
-  inner-step-reads.Asked,
-  inner-step-reads.Learnt,
-  outer-below t,
-  outer.Post,
-  part-reads.Asked,
-  part-reads.Learnt,
-  stop-reads.Asked,
-  stop-reads.Learnt,
-)
-    (group-at t)
-    group.Post
-    group-Inv-loop
-    group-μ-loop
-    (group-loop-holds t)
-    (group-inner-step-requires t)
-    (group-enum-told t)
-    (group-returns t)
-    (group-outer-requires t)
-    (group-returns-2 t)
-    (group-enum-known-kind t)
-    (group-part-requires t)
-    (group-returns-3 t)
-    (group-loop-less t)
-    (group-loop-again t)
-    (group-enum-known-number t)
-    (group-stop-requires t)
-    (group-returns-4 t))
-    λ t. outer-lts.spec (
-      outer-step-reads.Asked,
-      outer-step-reads.Learnt,
-      group-below t,
-      group.Post,
-      part-reads.Asked,
-      part-reads.Learnt,
-      skip-one-reads.Asked,
-      skip-one-reads.Learnt,
-      stop-reads.Asked,
-      stop-reads.Learnt,
-    )
-    (outer-at t)
-    outer.Post
-    outer-Inv-loop
-    outer-μ-loop
-    (outer-loop-holds t)
-    (outer-outer-step-requires t)
-    (outer-enum-told t)
-    (outer-returns t)
-    (outer-enum-known-from t)
-    (outer-group-requires t)
-    (outer-enum-known-read t)
-    (outer-returns-2 t)
-    (outer-enum-known-read-2 t)
-    (outer-loop-less t)
-    (outer-loop-again t)
-    (outer-enum-known-from-2 t)
-    (outer-part-requires t)
-    (outer-returns-3 t)
-    (outer-loop-less-2 t)
-    (outer-loop-again-2 t)
-    (outer-enum-known-to t)
-    (outer-skip-one-requires t)
-    (outer-loop-less-3 t)
-    (outer-loop-again-3 t)
-    (outer-enum-known-number t)
-    (outer-stop-requires t)
-    (outer-returns-4 t)
++group+outer-spec =
+    close μ-group μ-outer
+    (λ t. group-lts.spec (group-calls t) (group-at t) group.Post group-Inv-loop group-μ-loop
+    (group-loop-holds t) (group-inner-step-requires t) (group-enum-told t) (group-returns t)
+    (group-outer-requires t) (group-returns-2 t) (group-enum-known-kind t) (group-part-requires t)
+    (group-returns-3 t) (group-loop-less t) (group-loop-again t) (group-enum-known-number t)
+    (group-stop-requires t) (group-returns-4 t))
+    (λ t. outer-lts.spec (outer-calls t) (outer-at t) outer.Post outer-Inv-loop outer-μ-loop
+    (outer-loop-holds t) (outer-outer-step-requires t) (outer-enum-told t) (outer-returns t)
+    (outer-enum-known-from t) (outer-group-requires t) (outer-enum-known-read t) (outer-returns-2 t)
+    (outer-enum-known-read-2 t) (outer-loop-less t) (outer-loop-again t) (outer-enum-known-from-2 t)
+    (outer-part-requires t) (outer-returns-3 t) (outer-loop-less-2 t) (outer-loop-again-2 t)
+    (outer-enum-known-to t) (outer-skip-one-requires t) (outer-loop-less-3 t) (outer-loop-again-3 t)
+    (outer-enum-known-number t) (outer-stop-requires t) (outer-returns-4 t))
