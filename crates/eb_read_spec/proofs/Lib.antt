@@ -16,3 +16,4 @@ pub mod HeaderNumbers
 pub mod Bounded
 pub mod Witnessed
 pub mod Skipped
+pub mod Keeps

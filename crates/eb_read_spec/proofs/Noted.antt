@@ -1,6 +1,6 @@
 -- What holds of every element that the walk noted: it passed the tests of its kind, so that the bytes at its offset are within the
 -- limits of reading, and it lies before the end of the list. An offset that is 0 is none. Assumes nothing.
-use Prim.Native.Nat.{ℕ, zero, suc, _+_, _-_, _*_, _/_, _%_, _≤_}
+use Prim.Native.Nat.{ℕ, _+_, _-_, _*_, _/_, _%_, _≤_}
 use mathlib.Core.Path.{_≡_, refl}
 use mathlib.Core.Bool.{true}
 use mathlib.Core.List.{List}
@@ -15,19 +15,14 @@ use Rattle.octets_spec.proofs.ChoiceLaws.{by-test, was-ge, was-eq, was-ne, was-
 use Rattle.refusal.specs.Refusal.{done, shape, missingOrTwice, outOfLimits}
 use Rattle.ie_verdict_spec.specs.Verdict.{syncFault, timeslotFault, hoppingFault, slotframeShape, slotframeLimits, slotframeFault, joiningFault, timeslotsFit, slotframeFaultAt, partFault}
 use Rattle.ie_verdict_spec.specs.declared.Seen.{Seen}
-use Rattle.ie_step_spec.specs.Payload.{outerAt, outerWithin, innerAt, innerWithin}
-use Rattle.ie_step_spec.specs.declared.OuterStep.{OuterStep}
-use Rattle.ie_step_spec.specs.declared.OuterStep.the-variants as outer
-use Rattle.ie_step_spec.specs.declared.InnerStep.{InnerStep}
-use Rattle.ie_step_spec.specs.declared.InnerStep.the-variants as inner
-use Rattle.ie_walk_spec.specs.Walk.{blankWalk, besides, seenOf, skipOne, taken, stopped, partTaken, outerGo, groupGo, payloadList}
+use Rattle.ie_walk_spec.specs.Walk.{blankWalk, besides, seenOf, skipOne, taken, stopped, partTaken, payloadList}
 use Rattle.ie_walk_spec.specs.declared.Walk.{Walk}
 use Rattle.ie_walk_spec.specs.declared.HeaderListEnd.{HeaderListEnd}
 use Rattle.mac_header_spec.specs.Fields.{offsetsOf, macHeaderOf}
 use Rattle.eb_read_spec.specs.declared.Examination.{Examination}
 use Rattle.eb_read_spec.specs.Read.{walkStart, skippedBefore, behindHeader, elementsWalk, examined}
 use Rattle.eb_read_spec.proofs.Each.{each-eq, each-eq-2}
-use Rattle.eb_read_spec.proofs.Within.{outer-within, inner-within}
+use Rattle.eb_read_spec.proofs.Keeps.{Kept, list-keeps}
 
 -- ---- what the bytes of an element are once it passed
 -- slotframe and link: 1 to 16 links, a size of at least 1, each timeslot below the size
@@ -214,46 +209,20 @@ pub start-noted : (s : List ℕ) (end : ℕ) (head : HeaderListEnd) → Noted s 
 unfolding walkStart blankWalk
 start-noted s end head = noted-besides s end blankWalk (blank-noted s end) _ _ _
 
--- what the lists keep at a bound: a group ends before the end of its list
-abbrev Outers : ℕ → Type 0
-Outers bound = (s : List ℕ) (at end : ℕ) (w : Walk) → Noted s end w → Noted s end (outerGo bound s at end w)
-
-abbrev Groups : ℕ → Type 0
-Groups bound = (s : List ℕ) (at to end : ℕ) (w : Walk) → to ≤ end → Noted s end w → Noted s end (groupGo bound s at to end w)
-
-module _ (bound : ℕ) (outers : Outers bound) (groups : Groups bound) (s : List ℕ) where
-  outer-step : (at end : ℕ) (w : Walk) → Noted s end w → (o : OuterStep) → outerAt s at end ≡ o → outerWithin o (at + 2) end → Noted s end (outerGo (suc bound) s at end w)
-  unfolding outerGo
-  outer-step at end w h outer.End e k = rw (e, outerGo) h
-  outer-step at end w h (outer.Group from to) e k = rw (e, outerGo) (groups s from to end w (k .2) h)
-  outer-step at end w h (outer.Joining from to) e k =
-      let t = part-noted s end w h 258 from to (k .2) at in
-      rw (e, outerGo) (either-eq (λ (r : Walk). Noted s end r) _ _ (outers s to end _ t) t _ _)
-  outer-step at end w h (outer.Skip to) e k = rw (e, outerGo) (outers s to end (skipOne w) (skip-noted s end w h))
-  outer-step at end w h (outer.Fault number) e k = rw (e, outerGo) (stop-noted s end w h number at)
-
-  group-step : (at to end : ℕ) (w : Walk) → to ≤ end → Noted s end w → (o : InnerStep) → innerAt s at to ≡ o → innerWithin o at to → Noted s end (groupGo (suc bound) s at to end w)
-  unfolding groupGo
-  group-step at to end w b h inner.Back e k = rw (e, groupGo) (outers s to end w h)
-  group-step at to end w b h (inner.Part kind from next) e k =
-      let before : next ≤ end = omega (arith, k, b) in
-      let t = part-noted s end w h kind from next before at in
-      rw (e, groupGo) (either-eq (λ (r : Walk). Noted s end r) _ _ (groups s next to end _ b t) t _ _)
-  group-step at to end w b h (inner.Fault number) e k = rw (e, groupGo) (stop-noted s end w h number at)
-
-lists-noted : (bound : ℕ) → Outers bound × Groups bound
-unfolding outerGo groupGo
-lists-noted zero = (λ s at end w h. h, λ s at to end w b h. h)
-lists-noted (suc bound) =
-    let outers : Outers bound = lists-noted bound .0 in
-    let groups : Groups bound = lists-noted bound .1 in
-    (λ s at end w h. outer-step bound outers groups s at end w h (outerAt s at end) refl (outer-within s at end), λ s at to end w b h. group-step bound outers groups s at to end w b h (innerAt s at to) refl (inner-within s at to))
+noted-kept : (s : List ℕ) (end : ℕ) → Kept s end (λ at w. Noted s end w)
+noted-kept s end = record {
+  moved = λ at to w low h. h;
+  skips = λ at to w low h. skip-noted s end w h;
+  parts = λ at kind from to w low le high h. part-noted s end w h kind from to high at;
+  stops = λ at number w e h. stop-noted s end w h number at;
+  stops-inside = λ at to number w e h. stop-noted s end w h number at;
+}
 
 pub elements-noted : (s : List ℕ) (at end : ℕ) → Noted s end (elementsWalk s at end)
 unfolding elementsWalk behindHeader payloadList skippedBefore
 elements-noted s at end =
     let P : Walk → Type 0 = λ w. Noted s end w in
-    either-eq P _ _ (either-eq P _ _ (start-noted s end _) (noted-besides s end _ (lists-noted _ .0 s _ end _ (blank-noted s end)) _ _ _) _ _) (start-noted s end _) _ _
+    either-eq P _ _ (either-eq P _ _ (start-noted s end _) (noted-besides s end _ (list-keeps s end (λ at w. Noted s end w) (noted-kept s end) _ _ _ (blank-noted s end) .2) _ _ _) _ _) (start-noted s end _) _ _
 
 pub examined-noted : (s : List ℕ) → Noted s (length s) (examined s .walk)
 unfolding examined macHeaderOf offsetsOf

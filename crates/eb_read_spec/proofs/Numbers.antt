@@ -17,10 +17,11 @@ use Rattle.ie_step_spec.specs.declared.OuterStep.{OuterStep}
 use Rattle.ie_step_spec.specs.declared.OuterStep.the-variants as outer
 use Rattle.ie_step_spec.specs.declared.InnerStep.{InnerStep}
 use Rattle.ie_step_spec.specs.declared.InnerStep.the-variants as inner
-use Rattle.ie_walk_spec.specs.Walk.{blankWalk, inFront, skippedOver, seenOf, skipOne, taken, stopped, partTaken, headerGo, headerList, outerGo, groupGo, payloadList}
+use Rattle.ie_walk_spec.specs.Walk.{blankWalk, inFront, skippedOver, seenOf, skipOne, taken, stopped, partTaken, headerGo, headerList, payloadList}
 use Rattle.ie_walk_spec.specs.declared.Walk.{Walk}
 use Rattle.mac_header_spec.specs.Fields.{macHeaderOf}
 use Rattle.eb_read_spec.specs.Policy.{formFault, policyFault, macHeaderFault}
+use Rattle.eb_read_spec.proofs.Keeps.{Kept, list-keeps}
 use Rattle.eb_read_spec.specs.declared.Examination.{Examination}
 use Rattle.eb_read_spec.specs.Read.{walkStart, skippedBefore, behindHeader, elementsWalk, missing, walkNumber, examined}
 
@@ -151,42 +152,21 @@ taken-part : (s : List ℕ) (w : Walk) (kind from to at : ℕ) → WalkSmall w �
 unfolding partTaken taken stopped
 taken-part s w kind from to at h = either-eq WalkSmall _ _ h (part-small s kind from to (seenOf w)) _ _
 
--- what the lists keep at a bound
-abbrev Outers : ℕ → Type 0
-Outers bound = (s : List ℕ) (at end : ℕ) (w : Walk) → WalkSmall w → WalkSmall (outerGo bound s at end w)
-
-abbrev Groups : ℕ → Type 0
-Groups bound = (s : List ℕ) (at to end : ℕ) (w : Walk) → WalkSmall w → WalkSmall (groupGo bound s at to end w)
-
-outer-step : (bound : ℕ) → Outers bound → Groups bound → (s : List ℕ) (at end : ℕ) (w : Walk) → WalkSmall w → (o : OuterStep) → outerAt s at end ≡ o → OuterSmall o → WalkSmall (outerGo (suc bound) s at end w)
-unfolding outerGo skipOne stopped
-outer-step bound outers groups s at end w h outer.End e f = rw (e, outerGo) h
-outer-step bound outers groups s at end w h (outer.Group from to) e f = rw (e, outerGo) (groups s from to end w h)
-outer-step bound outers groups s at end w h (outer.Joining from to) e f =
-    rw (e, outerGo) (either-eq WalkSmall _ _ (outers s to end _ (taken-part s w 258 from to at h)) (taken-part s w 258 from to at h) _ _)
-outer-step bound outers groups s at end w h (outer.Skip to) e f = rw (e, outerGo) (outers s to end (skipOne w) h)
-outer-step bound outers groups s at end w h (outer.Fault number) e f = rw (e, outerGo) f
-
-group-step : (bound : ℕ) → Outers bound → Groups bound → (s : List ℕ) (at to end : ℕ) (w : Walk) → WalkSmall w → (o : InnerStep) → innerAt s at to ≡ o → InnerSmall o → WalkSmall (groupGo (suc bound) s at to end w)
-unfolding groupGo stopped
-group-step bound outers groups s at to end w h inner.Back e f = rw (e, groupGo) (outers s to end w h)
-group-step bound outers groups s at to end w h (inner.Part kind from next) e f =
-    rw (e, groupGo) (either-eq WalkSmall _ _ (groups s next to end _ (taken-part s w kind from next at h)) (taken-part s w kind from next at h) _ _)
-group-step bound outers groups s at to end w h (inner.Fault number) e f = rw (e, groupGo) f
-
-both : (bound : ℕ) → Outers bound × Groups bound
-unfolding outerGo groupGo
-both zero = (λ s at end w h. h, λ s at to end w h. h)
-both (suc bound) =
-    let outers : Outers bound = both bound .0 in
-    let groups : Groups bound = both bound .1 in
-    (λ s at end w h. outer-step bound outers groups s at end w h (outerAt s at end) refl (outer-small s at end), λ s at to end w h. group-step bound outers groups s at to end w h (innerAt s at to) refl (inner-small s at to))
+small-kept : (s : List ℕ) (end : ℕ) → Kept s end (λ at w. WalkSmall w)
+unfolding skipOne stopped
+small-kept s end = record {
+  moved = λ at to w low h. h;
+  skips = λ at to w low h. h;
+  parts = λ at kind from to w low le high h. taken-part s w kind from to at h;
+  stops = λ at number w e h. rw e at (outer-small s at end);
+  stops-inside = λ at to number w e h. rw e at (inner-small s at to);
+}
 
 pub elements-small : (s : List ℕ) (at end : ℕ) → WalkSmall (elementsWalk s at end)
 unfolding elementsWalk behindHeader walkStart skippedBefore skippedOver headerList payloadList blankWalk
 elements-small s at end =
     let h : Late (headerGo (suc end) s at end .fault) = header-go (suc end) s at end in
-    either-eq WalkSmall _ _ (either-eq WalkSmall _ _ h (both _ .0 s _ end blankWalk tt) _ _) h _ _
+    either-eq WalkSmall _ _ (either-eq WalkSmall _ _ h (list-keeps s end (λ at w. WalkSmall w) (small-kept s end) _ _ blankWalk tt .2) _ _) h _ _
 
 missing-small : (w : Walk) → Late (missing w)
 unfolding missing

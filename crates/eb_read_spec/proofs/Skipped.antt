@@ -4,25 +4,22 @@ use native.Mathlib.Omega.{arith}
 use mathlib.Core.Path.{_≡_, refl}
 use mathlib.Core.List.{List, []}
 use lib.ListN.{length}
-use Rattle.octets_spec.proofs.ChoiceLaws.{either-eq}
+use Rattle.octets_spec.proofs.ChoiceLaws.{by-lt, either-eq}
 use Rattle.ie_step_spec.specs.Header.{headerAt, headerWithin}
-use Rattle.ie_step_spec.specs.Payload.{outerAt, outerWithin, innerAt, innerWithin}
 use Rattle.ie_step_spec.specs.declared.HeaderStep.{HeaderStep}
 use Rattle.ie_step_spec.specs.declared.HeaderStep.the-variants as header
-use Rattle.ie_step_spec.specs.declared.OuterStep.{OuterStep}
-use Rattle.ie_step_spec.specs.declared.OuterStep.the-variants as outer
-use Rattle.ie_step_spec.specs.declared.InnerStep.{InnerStep}
-use Rattle.ie_step_spec.specs.declared.InnerStep.the-variants as inner
-use Rattle.ie_walk_spec.specs.Walk.{HeaderList, blankWalk, inFront, skipOne, stopped, partTaken, headerGo, headerList, skippedOver, outerGo, groupGo, payloadList}
+use Rattle.ie_walk_spec.specs.Walk.{HeaderList, blankWalk, inFront, skipOne, stopped, headerGo, headerList, skippedOver, payloadList}
 use Rattle.ie_walk_spec.specs.declared.Walk.{Walk}
 use Rattle.ie_walk_spec.specs.declared.HeaderListEnd.{HeaderListEnd}
 use Rattle.ie_walk_spec.proofs.WalkLaws.{part-counts}
+use Rattle.ie_walk_spec.proofs.ListLaws.{payload-past}
 use Rattle.mac_header_spec.specs.Fields.{offsetsOf, macHeaderOf}
 use Rattle.eb_read_spec.specs.Claims.{SkippedFitTheFrame}
 use Rattle.eb_read_spec.specs.Read.{CountsBefore, walkStart, skippedBefore, behindHeader, elementsWalk, examined}
 use Rattle.eb_read_spec.specs.declared.Examination.{Examination}
 use Rattle.eb_read_spec.proofs.Each.{each-eq}
-use Rattle.eb_read_spec.proofs.Within.{header-within, outer-within, inner-within}
+use Rattle.eb_read_spec.proofs.Within.{header-within}
+use Rattle.eb_read_spec.proofs.Keeps.{Kept, list-keeps}
 
 -- ---- the header list: its elements lie before the payload list
 record HeaderFew (at end : ℕ) (list : HeaderList) : Type 0 where
@@ -46,44 +43,25 @@ header-few zero s at end = none-few at end _ _
 header-few (suc bound) s at end = header-step bound s at end (λ to. header-few bound s to end) (headerAt s at end) refl (header-within s at end)
 
 -- ---- the payload list: each element that it skips has a byte
-abbrev Outers : ℕ → Type 0
-Outers bound = (s : List ℕ) (at end : ℕ) (w : Walk) → outerGo bound s at end w .skipped ≤ w .skipped + (end - at)
+counted-kept : (s : List ℕ) (start end : ℕ) → Kept s end (λ at w. start + w .skipped ≤ at)
+unfolding skipOne stopped
+counted-kept s start end = record {
+  moved = λ at to w low h. omega (arith, low, h);
+  skips = λ at to w low h. omega (arith, low, h);
+  parts = λ at kind from to w low le high h. omega (arith, low, le, h, part-counts s w kind from to at);
+  stops = λ at number w e h. h;
+  stops-inside = λ at to number w e h. h;
+}
 
-abbrev Groups : ℕ → Type 0
-Groups bound = (s : List ℕ) (at to end : ℕ) (w : Walk) → at ≤ to → to ≤ end → groupGo bound s at to end w .skipped ≤ w .skipped + (end - at)
-
-module _ (bound : ℕ) (outers : Outers bound) (groups : Groups bound) (s : List ℕ) where
-  outer-step : (at end : ℕ) (w : Walk) (o : OuterStep) → outerAt s at end ≡ o → outerWithin o (at + 2) end → outerGo (suc bound) s at end w .skipped ≤ w .skipped + (end - at)
-  unfolding outerGo skipOne stopped
-  outer-step at end w outer.End e k = rw (e, outerGo) (omega arith)
-  outer-step at end w (outer.Group from to) e k = rw (e, outerGo) (omega (arith, k, groups s from to end w (k .1) (k .2)))
-  outer-step at end w (outer.Joining from to) e k =
-      let counts = part-counts s w 258 from to at in
-      rw (e, outerGo)
-      (either-eq (λ (r : Walk). r .skipped ≤ w .skipped + (end - at)) _ _ (omega (arith, k, counts, outers s to end (partTaken s w 258 from to at))) (omega (arith, k, counts)) _ _)
-  outer-step at end w (outer.Skip to) e k = rw (e, outerGo) (omega (arith, k, outers s to end (skipOne w)))
-  outer-step at end w (outer.Fault number) e k = rw (e, outerGo) (omega arith)
-
-  group-step : (at to end : ℕ) (w : Walk) → at ≤ to → to ≤ end → (o : InnerStep) → innerAt s at to ≡ o → innerWithin o at to → groupGo (suc bound) s at to end w .skipped ≤ w .skipped + (end - at)
-  unfolding groupGo stopped
-  group-step at to end w a b inner.Back e k = rw (e, groupGo) (omega (arith, a, outers s to end w))
-  group-step at to end w a b (inner.Part kind from next) e k =
-      let counts = part-counts s w kind from next at in
-      rw (e, groupGo)
-      (either-eq (λ (r : Walk). r .skipped ≤ w .skipped + (end - at)) _ _ (omega (arith, k, b, counts, groups s next to end (partTaken s w kind from next at) (k .2) b)) (omega (arith, k, b, counts)) _ _)
-  group-step at to end w a b (inner.Fault number) e k = rw (e, groupGo) (omega arith)
-
-lists-few : (bound : ℕ) → Outers bound × Groups bound
-unfolding outerGo groupGo
-lists-few zero = (λ s at end w. omega arith, λ s at to end w a b. omega arith)
-lists-few (suc bound) =
-    let outers : Outers bound = lists-few bound .0 in
-    let groups : Groups bound = lists-few bound .1 in
-    (λ s at end w. outer-step bound outers groups s at end w (outerAt s at end) refl (outer-within s at end), λ s at to end w a b. group-step bound outers groups s at to end w a b (innerAt s at to) refl (inner-within s at to))
+payload-inside : (s : List ℕ) (at end : ℕ) → at ≤ end → at + payloadList s at end .skipped ≤ end
+unfolding payloadList blankWalk
+payload-inside s at end low =
+    let r = list-keeps s end (λ i w. at + w .skipped ≤ i) (counted-kept s at end) (suc (2 * end)) at blankWalk (omega arith) in
+    omega (arith, r .1 low, r .2)
 
 payload-few : (s : List ℕ) (at end : ℕ) → payloadList s at end .skipped ≤ end - at
-unfolding payloadList blankWalk
-payload-few s at end = omega (arith, lists-few (suc (2 * end)) .0 s at end blankWalk)
+unfolding blankWalk
+payload-few s at end = by-lt end at (λ past. rw (← payload-past s at end blankWalk refl past) (omega arith)) (λ low. omega (arith, payload-inside s at end low))
 
 -- ---- both lists
 module _ (s : List ℕ) (at end : ℕ) where
