@@ -7,16 +7,15 @@ use reference::interface::{Numbers, Reading};
 use reference::library;
 use reference::random::Random;
 
-#[test]
-fn library_accepts_what_the_grammar_has() {
-    const FRAMES: usize = 1_000_000;
+/// Frames of one seed.
+fn accepts(seed: u64, frames: usize) {
     /// A constructor that is used less often would be a matter of luck.
     const LEAST: usize = 10_000;
 
-    let mut random = Random::new(9);
+    let mut random = Random::new(seed);
     let mut counts = Counts::default();
     let mut longest = 0;
-    for place in 0..FRAMES {
+    for place in 0..frames {
         let derivation = derive(&mut random);
         let expected = Reading::of(&Ok(derivation.beacon));
         let found = library::read(&derivation.frame);
@@ -28,4 +27,13 @@ fn library_accepts_what_the_grammar_has() {
     }
     assert_eq!(longest, 125);
     counts.expect("constructors", LEAST, &CONSTRUCTORS);
+}
+
+/// A million frames, half of them in a thread of their own.
+#[test]
+fn library_accepts_what_the_grammar_has() {
+    std::thread::scope(|scope| {
+        scope.spawn(|| accepts(9, 500_000));
+        scope.spawn(|| accepts(10, 500_000));
+    });
 }

@@ -26,6 +26,20 @@ use Rattle.eb_grammar_spec.proofs.Slices.{part, part-at, part-append, p
 use Rattle.eb_grammar_spec.proofs.Notes.{unseen}
 use Rattle.eb_grammar_spec.proofs.Rowed.{countFrom, padded-count}
 
+-- what the grammar reads off joining information
+abbrev pub joiningSaid : List ℕ → List ℕ → List ℕ → JoiningInformation
+joiningSaid word address network = record {
+  present = true;
+  router = eqb (bits 31 1 (be word)) 1;
+  proxied = eqb (bits 30 1 (be word)) 1;
+  proxy = bits 20 7 (be word);
+  rank = bits 8 12 (be word);
+  pan = bits 0 8 (be word);
+  address = be address;
+  length = length network;
+  network = network ++ replicate (16 - length network) 0;
+}
+
 pub nothing : (xs : List ℕ) → length xs ≡ 0 → be xs ≡ 0
 unfolding be
 nothing [] e = refl
@@ -84,19 +98,7 @@ module _ (s : List ℕ) (bytes : Bytes s) (at : ℕ) where
         if-ne _ _ p 1 not (nothing address none)))
 
     module _ (some : at ≡ 0 → ⊥) where
-      joins-value : _≡_ {A = JoiningInformation}
-          (record {
-            present = true;
-            router = eqb (bits 31 1 (be word)) 1;
-            proxied = eqb (bits 30 1 (be word)) 1;
-            proxy = bits 20 7 (be word);
-            rank = bits 8 12 (be word);
-            pan = bits 0 8 (be word);
-            address = be address;
-            length = length network;
-            network = network ++ replicate (16 - length network) 0;
-          })
-          (joiningAt s at (at + length c))
+      joins-value : joiningSaid word address network ≡ joiningAt s at (at + length c)
       joins-value =
           let whole : be word / 1 ≡ be word = omega arith in
           let skip : 4 + 8 * p ≡ networkOffset s at = rw word-is at (network-from s at (be word) word-is) in

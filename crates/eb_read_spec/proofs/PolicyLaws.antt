@@ -6,7 +6,7 @@ use lib.ListN.{length}
 use native.Mathlib.Omega.{arith}
 use Rattle.octets_spec.specs.Choice.{ifEq}
 use Rattle.octets_spec.specs.Number.{leAt}
-use Rattle.octets_spec.proofs.ChoiceLaws.{if-lt, if-ge, if-eq, if-ne, was-eq, choices}
+use Rattle.octets_spec.proofs.ChoiceLaws.{if-lt, if-ge, if-eq, if-ne, was-eq}
 use Rattle.mac_header_spec.specs.Control.{controlOf}
 use Rattle.mac_header_spec.specs.Fields.{addressLength, offsetsOf, macHeaderOf}
 use Rattle.mac_header_spec.specs.declared.Control.{Control}
@@ -104,4 +104,4 @@ module _ (s : List ℕ) where
   pub frame-empty : length s ≤ 125 → length s < 2 → 2 ≡ macHeaderFault s
   frame-empty short h = frame-policy 2 (no-control (length s) (macHeaderOf s) short h)
 
-pub ruleset policies = (choices, frame-long, frame-empty, frame-form, frame-cut, frame-destination, frame-accepted)
+pub ruleset policies = (frame-long, frame-empty, frame-form, frame-cut, frame-destination, frame-accepted)

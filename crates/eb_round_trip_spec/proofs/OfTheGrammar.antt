@@ -32,6 +32,7 @@ use Rattle.eb_round_trip_spec.specs.ReadBack.{Writable}
 use Rattle.eb_round_trip_spec.proofs.Fitting.{SynchronizationWithin, TemplateWithin, LinkWithin, SlotframeWithin, PresentWithin, Within, within-limits, below-at}
 use Rattle.eb_grammar_spec.specs.Row.{le, be, bits, Row, last, next}
 use Rattle.eb_grammar_spec.specs.Grammar.{Descriptor, Element, contents, short-id, long-id, SubElements, group-end, sub-element, PayloadElements, bytes-end, payload-element, mlme, ietf-element, header-end, TimeslotContent, id-alone, timed-25, timed-27, Links, no-links, one-link, SlotframeContent, slotframe, JoiningContent, absent, joining, Says, FrameControl, SequenceBytes, numbered, suppressed, SourceBytes, short-source, extended-source, FixedFields, fixed-fields, Accepts}
+use Rattle.eb_grammar_spec.proofs.Joined.{joiningSaid}
 
 -- ---- numbers
 le-of : (width n : ℕ) → n < 256 ^ width → le (leBytes width n) ≡ n
@@ -263,18 +264,7 @@ module _ (j : JoiningInformation) (sized : length (j .network) ≡ 16) (there : 
       let eight : length addresses ≡ 8 * bits 30 1 (be word) = rw (word-is, parts .proxied) address-length in
       let few : length network ≤ 16 = omega (arith, network-length, w .few) in
       let padded : network ++ replicate (16 - j .length) 0 ≡ j .network = rw (← w .unused) (take-append-drop (j .length) (j .network)) in
-      let is : _≡_ {A = JoiningInformation}
-      (record {
-        present = true;
-        router = eqb (bits 31 1 (be word)) 1;
-        proxied = eqb (bits 30 1 (be word)) 1;
-        proxy = bits 20 7 (be word);
-        rank = bits 8 12 (be word);
-        pan = bits 0 8 (be word);
-        address = be addresses;
-        length = length network;
-        network = network ++ replicate (16 - length network) 0;
-      })
+      let is : _≡_ {A = JoiningInformation} (joiningSaid word addresses network)
       (record { present = j .present; router = j .router; proxied = j .proxied; proxy = j .proxy; rank = j .rank; pan = j .pan; address = j .address; length = j .length; network = j .network }) =
       rw (word-is, parts .router, parts .proxied, parts .proxy, parts .rank, parts .pan, flag-back (j .router), flag-back (j .proxied), address-is, network-length, padded, there) in
       subst (λ r. JoiningContent ((word ++ (addresses ++ network)) ∷ []) r) is (joining word addresses network (length-be 4 (joiningWord j)) eight few)

@@ -5,10 +5,10 @@ use Rattle.eb_examine.proofs.policy.mac_header_fault.Statement.{stateme
 use Rattle.eb_examine.proofs.policy.mac_header_fault.Tie as tie
 
 returns : tie.Need-returns
-returns c = search (needs, policies) depth 12
+returns c = search (needs, policies)
 
 returns-2 : tie.Need-returns-2
-returns-2 c = search (needs, policies) depth 12
+returns-2 c = search (needs, policies)
 
 le-requires : tie.Need-le-requires
 le-requires c κs = search needs
@@ -20,22 +20,22 @@ form-fault-requires : tie.Need-form-fault-requires
 form-fault-requires c κs = search needs
 
 returns-3 : tie.Need-returns-3
-returns-3 c = search (needs, policies) depth 12
+returns-3 c = search (needs, policies)
 
 offsets-of-requires : tie.Need-offsets-of-requires
 offsets-of-requires c κs = search needs
 
 returns-4 : tie.Need-returns-4
-returns-4 c = search (needs, policies) depth 12
+returns-4 c = search (needs, policies)
 
 le-requires-2 : tie.Need-le-requires-2
 le-requires-2 c κs = search needs
 
 returns-5 : tie.Need-returns-5
-returns-5 c = search (needs, policies) depth 12
+returns-5 c = search (needs, policies)
 
 returns-6 : tie.Need-returns-6
-returns-6 c = search (needs, policies) depth 12
+returns-6 c = search (needs, policies)
 
 pub mac-header-fault-spec : {M : Type 1} → statement M
 mac-header-fault-spec =
