@@ -1,13 +1,12 @@
 -- What holds of lists of calls on tables holds of the calls that C makes. Assumes nothing.
 use Prim.Native.Nat.{ℕ, _+_}
 use mathlib.Core.Path.{_≡_, refl, sym, ap, ap₂, subst, _∙_}
-use mathlib.Core.Bool.{Bool, true, false, cond, not, _&&_}
+use mathlib.Core.Bool.{Bool, true, false, cond, not, _&&_, and-eq-true-iff}
 use mathlib.Core.List.{List, [], _∷_}
 use lib.Dec.{eqb, ltb}
 use borrow.Author.Tests.{not-true, not-false}
 use Rattle.octets_spec.specs.Choice.{ifOn, ifLt}
 use Rattle.octets_spec.proofs.ChoiceLaws.{by-test}
-use Rattle.nbr_metric_spec.proofs.MetricLaws.{both}
 use Rattle.nbr_table_spec.proofs.PlaceLaws.{neither}
 use Rattle.nbr_table_spec.specs.Places.{known, somePlace, free}
 use Rattle.nbr_table_spec.specs.declared.Table.{Table}
@@ -120,7 +119,7 @@ module _ (form : TableForm) (calls : List Call) (h : appliesInC form calls ≡ t
   parts : (refused form ≡ false) × (someEvaluation (asTables (formEvaluations form calls)) && eachEligible (asTables (formEvaluations form calls)) ≡ true)
   unfolding appliesInC
   parts =
-      let k = both (not (refused form)) (someEvaluation (asTables (formEvaluations form calls)) && eachEligible (asTables (formEvaluations form calls))) h in
+      let k = and-eq-true-iff (not (refused form)) (someEvaluation (asTables (formEvaluations form calls)) && eachEligible (asTables (formEvaluations form calls))) .0 h in
       (not-true (refused form) (k .0), k .1)
 
   is : isTable form ≡ true

@@ -10,6 +10,7 @@ use lib.Seq.{set-getD, set-out}
 use lib.Dec.{eqb}
 use Rattle.octets_spec.specs.Choice.{ifOn}
 use Rattle.octets_spec.proofs.ChoiceLaws.{by-test, choices, if-off, if-on}
+use Rattle.octets_spec.proofs.CountedLaws.{length-mapped}
 use Rattle.nbr_metric_spec.specs.declared.Place.{Place}
 use Rattle.nbr_metric_spec.specs.Metric.{blank}
 use Rattle.nbr_table_spec.specs.Places.{best}
@@ -22,7 +23,7 @@ use Rattle.nbr_table_spec.specs.declared.Settlement.{Settlement}
 use Rattle.nbr_table_spec.specs.Calls.{answer, broken, chosen, evaluated, heldPlace, idOf, markOf, sameParent, withParent, without}
 use Rattle.nbr_table_spec.specs.Offers.{settlement}
 use Rattle.nbr_table_spec.specs.Stores.{advertising, forgetting, reporting, stored}
-use Rattle.nbr_table_spec.proofs.PlaceLaws.{clash, length-mapped}
+use Rattle.nbr_table_spec.proofs.PlaceLaws.{clash}
 use Rattle.nbr_table_spec.proofs.CallLaws.{evaluated-broken, evaluated-done}
 use Rattle.nbr_table_spec.proofs.StoreLaws.{advertise-done, forget-done, report-done, store-place, store-refused}
 use Rattle.nbr_stability_spec.proofs.Bound.{same-self}

@@ -6,10 +6,10 @@ use native.Mathlib.Omega.{arith}
 use lib.ListN.{length}
 use Rattle.octets_spec.specs.Number.{leBytes, stored}
 use Rattle.octets_spec.proofs.PutLaws.{stored-out}
+use Rattle.octets_spec.proofs.CountedLaws.{length-mapped}
 use Rattle.eb_record_spec.specs.declared.Beacon.{Beacon}
 use Rattle.eb_write_spec.specs.Frame.{sequenceBytes, sourceBytes, headerDescriptor, groupSize, joiningBytes, beaconMacHeader, beaconGroup, frameOf}
 use Rattle.eb_write_spec.proofs.LengthLaws.{length-le, length-mac-header, length-group-used}
-use Rattle.eb_write_spec.proofs.RangeLaws.{length-mapped}
 use Rattle.eb_write_spec.proofs.RowLaws.{two, three}
 
 pub before-is : (b : Beacon) (used size : ℕ) → length (b .timeslot .timings) ≡ 12 → length (b .slotframe .links) ≡ 16 → used ≡ min (b .slotframe .count) 16 → size ≡ groupSize (b .timeslot) used → 4 + size ≡ 2 + length (beaconGroup b)

@@ -4,12 +4,10 @@ use mathlib.Core.Path.{_≡_, refl, sym, _∙_, ap}
 use mathlib.Core.List.{List, [], _∷_, _++_, append-nil, append-assoc}
 use mathlib.Core.Logic.{inl, inr}
 use native.Mathlib.Omega.{arith}
-use borrow.Author.Tests.{eqb-true, eqb-false}
-use lib.Dec.{eqb}
 use lib.ListN.{length, getD, length-append}
 use lib.Seq.{append-snoc}
 use Rattle.octets_spec.specs.Choice.{ifEq}
-use Rattle.octets_spec.proofs.ChoiceLaws.{if-eq, if-ne, by-test}
+use Rattle.octets_spec.proofs.ChoiceLaws.{if-eq, if-ne, by-eq}
 use Rattle.ie_step_spec.specs.Payload.{groupOf, outerAt}
 use Rattle.ie_step_spec.specs.declared.HeaderStep.the-variants as header
 use Rattle.ie_step_spec.specs.declared.OuterStep.the-variants as outer
@@ -29,9 +27,6 @@ use Rattle.eb_grammar_spec.proofs.Notes.{unseen, split-sync, split-time
 takes : (s : List ℕ) (w : Walk) (kind from to at : ℕ) → 0 ≡ partFault s kind from to (seenOf w) → taken w kind from to ≡ partTaken s w kind from to at
 unfolding partTaken
 takes s w kind from to at fine = if-eq _ _ _ _ (sym fine) refl
-
-by-eq : {X : Type 0} (a b : ℕ) → (a ≡ b → X) → ((a ≡ b → ⊥) → X) → X
-by-eq a b one two = by-test (eqb a b) (λ t. one (eqb-true a b t)) (λ t. two (eqb-false a b t))
 
 module _ (s : List ℕ) where
   -- an element of a kind has no fault where it stands

@@ -1,5 +1,5 @@
 -- Joining information: a content of the grammar passes and is read as what it says; and one that passed is of the grammar. Assumes nothing.
-use Prim.Native.Nat.{ℕ, suc, _+_, _-_, _*_, _/_, _%_, _<_, _≤_}
+use Prim.Native.Nat.{ℕ, suc, _+_, _-_, _*_, _/_, _%_, _≤_}
 use mathlib.Core.Path.{_≡_, refl, sym, _∙_, ap, subst}
 use mathlib.Core.Bool.{true}
 use mathlib.Core.List.{List, [], _∷_, _++_}
@@ -18,7 +18,7 @@ use Rattle.eb_read_spec.specs.Decode.{networkOffset, joiningAt}
 use Rattle.eb_read_spec.proofs.DecodeLaws.{network-from, joining-is, joining-absent}
 use Rattle.eb_read_spec.specs.Claims.{Bytes}
 use Rattle.eb_read_spec.proofs.Noted.{kind-joining}
-use Rattle.eb_read_spec.proofs.Bounds.{be-below}
+use Rattle.eb_read_spec.proofs.NetworkRecord.{top-bits}
 use Rattle.eb_grammar_spec.proofs.Stands.{Stands, stands-first, stands-rest, stands-at}
 use Rattle.eb_grammar_spec.specs.Row.{be, bits}
 use Rattle.eb_grammar_spec.specs.Grammar.{JoiningContent, absent, joining}
@@ -45,17 +45,12 @@ unfolding be
 nothing [] e = refl
 nothing (x ∷ xs) e = absurd (omega (arith, e))
 
--- P is bit 6 of the first byte
-first-bit : (x y word : ℕ) → word ≡ 16777216 * x + y → y < 16777216 → word / 1073741824 % 2 ≡ x / 64 % 2
-first-bit x y word e small = let k : word / 1073741824 ≡ x / 64 = omega arith in rw k
-
 module _ (s : List ℕ) (bytes : Bytes s) (at : ℕ) where
   abbrev p : ℕ
   p = beAt 4 s at / 1073741824 % 2
 
   p-is : p ≡ getD s at 0 / 64 % 2
-  unfolding beAt
-  p-is = first-bit (getD s at 0) (beAt 3 s (at + 1)) (beAt 4 s at) refl (be-below s bytes 3 (at + 1))
+  p-is = ap (λ (k : ℕ). k % 2) (top-bits s bytes at)
 
   bytes-count : (skip i : ℕ) (xs : List ℕ) → Stands s (at + (skip + i)) xs → xs ≡ countFrom (λ j. getD s (at + (skip + j)) 0) i (length xs)
   unfolding countFrom Stands

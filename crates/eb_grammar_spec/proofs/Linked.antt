@@ -1,24 +1,23 @@
 -- Slotframe and link: a content of the grammar passes and is read as what it says; and one that passed is of the grammar. Assumes nothing.
 use Prim.Native.Nat.{ℕ, zero, suc, _+_, _-_, _*_, _≤_}
 use mathlib.Core.Path.{_≡_, refl, sym, _∙_, ap, subst}
-use mathlib.Core.Bool.{Bool, true, false, _&&_}
+use mathlib.Core.Bool.{Bool, true, and-eq-true-iff}
 use mathlib.Core.List.{List, [], _∷_, _++_}
 use native.Mathlib.Nat.{add-zero, add-sub-cancel-left}
 use native.Mathlib.Omega.{arith}
 use borrow.Author.Tests.{lt-ltb, ltb-true}
-use lib.Dec.{T, ltb}
+use lib.Dec.{ltb}
 use lib.ListN.{length, getD, replicate, length-append}
 use Rattle.octets_spec.specs.Choice.{ifEq}
 use Rattle.octets_spec.specs.Number.{leAt}
-use Rattle.octets_spec.proofs.ChoiceLaws.{if-ge, if-eq, if-ne, if-on, was-eq, was-ge}
+use Rattle.octets_spec.proofs.ChoiceLaws.{if-ge, if-eq, if-ne, if-on}
 use Rattle.eb_record_spec.specs.Record.{blankLink}
 use Rattle.eb_record_spec.specs.declared.Link.{Link}
 use Rattle.eb_record_spec.specs.declared.Slotframe.{Slotframe}
 use Rattle.ie_verdict_spec.specs.Verdict.{slotframeShape, slotframeLimits, slotframeFault, timeslotsFit, slotframeFaultAt, partFault}
 use Rattle.eb_read_spec.specs.Decode.{linkAt, slotframeAt}
 use Rattle.eb_read_spec.proofs.DecodeLaws.{links-at, slotframe-is}
-use Rattle.eb_read_spec.proofs.Each.{each-eq}
-use Rattle.eb_read_spec.proofs.Noted.{wrong-shape, over-limits, kind-slotframe}
+use Rattle.eb_read_spec.proofs.Noted.{kind-slotframe}
 use Rattle.eb_grammar_spec.proofs.Stands.{Stands, stands-first, stands-rest, stands-at, byte-is}
 use Rattle.eb_grammar_spec.specs.Row.{Row}
 use Rattle.eb_grammar_spec.specs.Grammar.{Links, no-links, one-link, SlotframeContent, slotframe}
@@ -26,10 +25,6 @@ use Rattle.eb_grammar_spec.proofs.Slices.{part, part-at, part-append, p
 use Rattle.eb_grammar_spec.proofs.Notes.{unseen}
 use Rattle.eb_grammar_spec.proofs.Rowed.{numbersAt, total, row-length, row-reads, row-of, countFrom, length-count, padded-count}
 use Rattle.eb_grammar_spec.proofs.Synchronized.{entry}
-
-and-parts : (a b : Bool) → (a && b) ≡ true → (a ≡ true) × (b ≡ true)
-and-parts true b e = (refl, e)
-and-parts false b e = absurd (subst T (sym e) tt)
 
 -- the byte that a number of one byte is
 pub one-byte : (s : List ℕ) (at : ℕ) → leAt 1 s at ≡ getD s at 0
@@ -71,7 +66,7 @@ module _ (s : List ℕ) (at : ℕ) where
   links-some size zero i e = no-links
   links-some size (suc n) i e =
       let k : ℕ = 5 + 5 * i in
-      let parts = and-parts (ltb (leAt 2 s (at + k)) size) _ e in
+      let parts = and-eq-true-iff (ltb (leAt 2 s (at + k)) size) _ .0 e in
       let next : at + k + 5 ≡ at + (5 + 5 * suc i) = omega arith in
       let long : 5 * suc n ≡ 5 + 5 * n = omega arith in
       let row = row-of s (2 ∷ 2 ∷ 1 ∷ []) at k in
@@ -86,16 +81,6 @@ module _ (s : List ℕ) (at : ℕ) where
   no-fault bytes size n below long some-size some few all =
       let shaped : slotframeShape bytes 1 n ≡ 0 = sym (if-ge _ _ bytes 5 (omega arith) (if-eq _ _ 1 1 refl (if-eq _ _ bytes (5 + 5 * n) long refl))) in
       sym (if-eq _ _ _ _ shaped (if-eq _ _ 0 0 refl (if-ne _ _ size 0 (λ z. omega (arith, z)) (if-ne _ _ n 0 (λ z. omega (arith, z)) (if-ge _ _ 16 n few (if-on _ _ below all refl))))))
-
-  shape-says : (bytes count n : ℕ) → slotframeShape bytes count n ≡ 0 → (count ≡ 1) × (bytes ≡ 5 + 5 * n)
-  unfolding slotframeShape
-  shape-says bytes count n e =
-      let one = was-eq _ _ _ _ _ (was-ge _ _ _ _ _ e wrong-shape .1) over-limits in
-      (one .0, was-eq _ _ _ _ _ (one .1) wrong-shape .0)
-
-  fault-says : (bytes : ℕ) → slotframeFaultAt s at bytes 0 ≡ 0 → (getD s at 0 ≡ 1) × (bytes ≡ 5 + 5 * getD s (at + 4) 0)
-  unfolding slotframeFaultAt slotframeFault
-  fault-says bytes = each-eq (λ (k : ℕ). k ≡ 0 → (getD s at 0 ≡ 1) × (bytes ≡ 5 + 5 * getD s (at + 4) 0)) _ _ _ 0 (λ shaped e. shape-says bytes _ _ shaped) (λ misshapen e. absurd (misshapen e))
 
   -- what a content of the grammar has at its places
   record Reads (c : List ℕ) (handle size : ℕ) (links : List Link) : Type 0 where
@@ -145,17 +130,18 @@ module _ (s : List ℕ) (at : ℕ) where
   slotframe-some c h e =
       let n : ℕ = getD s (at + 4) 0 in
       let size : ℕ = leAt 2 s (at + 2) in
-      let shape = fault-says (length c) (rw (add-sub-cancel-left at (length c)) at e) in
-      let p = kind-slotframe s at _ unseen e in
+      let passed = kind-slotframe s at _ unseen e in
+      let p = passed .0 in
+      let long = sym (add-sub-cancel-left at (length c)) ∙ passed .2 in
       let links : List Link = countFrom (linkAt s at) 0 n in
       let many : length links ≡ n = length-count (linkAt s at) n 0 in
       let zero-at : at + 0 ≡ at = add-zero at in
       let row : Row (1 ∷ 1 ∷ 2 ∷ 1 ∷ []) (part s at 5) (1 ∷ leAt 1 s (at + 1) ∷ size ∷ length links ∷ []) =
-      let e₁ : leAt 1 s at ≡ 1 = one-byte s at ∙ shape .0 in
+      let e₁ : leAt 1 s at ≡ 1 = one-byte s at ∙ passed .1 in
       let e₄ : leAt 1 s (at + 4) ≡ length links = one-byte s (at + 4) ∙ sym many in
       rw (zero-at, e₁, e₄) at (row-of s (1 ∷ 1 ∷ 2 ∷ 1 ∷ []) at 0) in
       let content = slotframe (leAt 1 s (at + 1)) size links row (links-some size n 0 (p .below)) (p .sized) (rw many (p .some)) (rw many (p .few)) in
-      (_, content-as c _ _ (part-stands s at c h ∙ (part-at s at at (length c) (5 + 5 * n) refl (shape .1) ∙ part-append s at 5 (5 * n))) content)
+      (_, content-as c _ _ (part-stands s at c h ∙ (part-at s at at (length c) (5 + 5 * n) refl long ∙ part-append s at 5 (5 * n))) content)
 
   pub slotframe-says : (c : List ℕ) → Stands s at c → partFault s 27 at (at + length c) unseen ≡ 0 → SlotframeContent c (slotframeAt s at)
   slotframe-says c h e = let some = slotframe-some c h e in subst (λ f. SlotframeContent c f) (slotframe-value c _ (some .1) h) (some .1)

@@ -6,11 +6,12 @@ use native.Mathlib.Omega.{arith}
 use lib.ListN.{length, getD, take, drop, length-append}
 use Rattle.octets_spec.specs.Number.{leBytes, stored}
 use Rattle.octets_spec.proofs.PutLaws.{stored-out}
+use Rattle.octets_spec.proofs.CountedLaws.{length-mapped}
 use Rattle.eb_record_spec.specs.declared.Link.{Link}
 use Rattle.eb_record_spec.specs.declared.Slotframe.{Slotframe}
 use Rattle.eb_write_spec.specs.Frame.{shortDescriptor, linkBytes, linksBytes, slotframeBytes}
 use Rattle.eb_write_spec.proofs.LengthLaws.{length-le}
-use Rattle.eb_write_spec.proofs.RangeLaws.{length-mapped, clip-take}
+use Rattle.eb_write_spec.proofs.RangeLaws.{clip-take}
 use Rattle.eb_write_spec.proofs.RowLaws.{two, run-start, run-next, run-end, le-joined, le-low}
 
 -- ---- a link, and the links

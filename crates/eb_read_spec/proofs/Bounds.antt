@@ -15,7 +15,7 @@ use Rattle.octets_spec.specs.Counted.{counted, padded}
 use Rattle.octets_spec.proofs.CountedLaws.{length-counted}
 use Rattle.ie_verdict_spec.specs.Verdict.{timeslotsFit}
 use Rattle.eb_read_spec.specs.Claims.{Bytes}
-use Rattle.eb_read_spec.proofs.Numbers.{both-left, both-right}
+use mir.Facts.{and-yes}
 
 -- ---- a number is below 256 to the power of its width
 module _ (s : List ℕ) (bytes : Bytes s) where
@@ -51,10 +51,10 @@ unfolding timeslotsFit
 fit-go s size zero at i t h = absurd (omega arith)
 fit-go s size (suc n) at zero t h =
     let here : at + 5 * 0 ≡ at = omega arith in
-    rw here (ltb→lt _ _ (both-left (ltb (leAt 2 s at) size) _ t))
+    rw here (ltb→lt _ _ (and-yes (ltb (leAt 2 s at) size) _ t .0))
 fit-go s size (suc n) at (suc i) t h =
     let next : at + 5 * suc i ≡ at + 5 + 5 * i = omega arith in
-    rw next (fit-go s size n (at + 5) i (both-right (ltb (leAt 2 s at) size) _ t) (omega arith))
+    rw next (fit-go s size n (at + 5) i (and-yes (ltb (leAt 2 s at) size) _ t .1) (omega arith))
 
 pub fit-below : (s : List ℕ) (size n at i : ℕ) → timeslotsFit s at n size ≡ true → i < n → leAt 2 s (at + 5 * i) < size
 fit-below s size n at i e h = fit-go s size n at i (subst T (sym e) tt) h

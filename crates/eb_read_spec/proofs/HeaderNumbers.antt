@@ -5,9 +5,7 @@ use mathlib.Core.Path.{_≡_, refl, sym, subst, _∙_}
 use mathlib.Core.List.{List}
 use mathlib.Core.Logic.{_⊎_, ⊎-elim, inl, inr}
 use lib.ListN.{length}
-use lib.Dec.{eqb}
-use borrow.Author.Tests.{eqb-false, eqb-true}
-use Rattle.octets_spec.proofs.ChoiceLaws.{by-lt, by-test, either-eq, either-lt, if-eq, if-ge, if-lt, if-ne, was-ge, was-ne}
+use Rattle.octets_spec.proofs.ChoiceLaws.{by-lt, either-eq, either-lt, if-eq, if-ge, if-lt, if-ne, was-ge, was-ne, by-eq}
 use Rattle.mac_header_spec.specs.Fields.{macHeaderOf}
 use Rattle.mac_header_spec.specs.declared.Control.{Control}
 use Rattle.eb_read_spec.specs.Policy.{formFault, policyFault, macHeaderFault}
@@ -18,9 +16,6 @@ use Rattle.eb_read_spec.proofs.PolicyLaws.{bad-form, no-broadcast, no-c
 use Rattle.eb_read_spec.proofs.Claimed.{number-of}
 use Rattle.eb_read_spec.proofs.Each.{each-eq}
 use Rattle.eb_read_spec.proofs.Numbers.{Late, elements-small, number-small}
-
-by-eq : {X : Type 0} (a b : ℕ) → (a ≡ b → X) → ((a ≡ b → ⊥) → X) → X
-by-eq a b same other = by-test (eqb a b) (λ t. same (eqb-true a b t)) (λ t. other (eqb-false a b t))
 
 module _ (s : List ℕ) where
   abbrev control : Control

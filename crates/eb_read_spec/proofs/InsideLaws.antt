@@ -1,13 +1,13 @@
 -- The laws of elements that lie inside a frame: the test and the facts say the same, and each way out of the test as code meets it.
 -- Assumes nothing.
 use Prim.Native.Nat.{ℕ, _+_, _-_, _*_, _/_, _%_, _<_, _≤_}
-use mathlib.Core.Path.{_≡_, refl, sym, subst}
-use mathlib.Core.Bool.{Bool, true, false, _&&_, _||_}
+use mathlib.Core.Path.{_≡_, refl, sym}
+use mathlib.Core.Bool.{Bool, true, false, _&&_, _||_, and-eq-true-iff, false≢true}
 use mathlib.Core.List.{List}
 use mathlib.Core.Logic.{inl, inr}
 use native.Mathlib.Omega.{arith}
 use borrow.Author.Tests.{lt-ltb, le-ltb, eqb-true}
-use lib.Dec.{T, eqb, ltb}
+use lib.Dec.{eqb, ltb}
 use lib.ListN.{length, getD}
 use Rattle.octets_spec.specs.Choice.{ifLt}
 use Rattle.octets_spec.proofs.ChoiceLaws.{if-lt, if-ge, if-eq, if-ne, was-ge, by-test, either-lt, choices}
@@ -15,17 +15,10 @@ use Rattle.ie_walk_spec.specs.declared.Walk.{Walk}
 use Rattle.eb_read_spec.specs.Inside.{bytesInside, isTimeslotLength, timeslotInside, slotframeInside, isJoiningLength, joiningInside, liesInside, TimeslotLength, JoiningInside, ElementsInside}
 use Rattle.eb_read_spec.proofs.Each.{each-lt, each-eq}
 
-no : false ≡ true → ⊥
-no e = subst T (sym e) tt
-
-both : (a b : Bool) → a && b ≡ true → (a ≡ true) × (b ≡ true)
-both true b e = (refl, e)
-both false b e = absurd (no e)
-
 -- ---- from the test to the facts
 bytes-fit : (s : List ℕ) (at size : ℕ) → bytesInside s at size ≡ true → at + size ≤ length s
 unfolding bytesInside
-bytes-fit s at size e = was-ge _ _ _ _ _ e no .0
+bytes-fit s at size e = was-ge _ _ _ _ _ e false≢true .0
 
 length-known : (n : ℕ) → isTimeslotLength n ≡ true → TimeslotLength n
 unfolding isTimeslotLength
@@ -34,30 +27,30 @@ length-known n e =
 
 timeslot-fits : (s : List ℕ) (at to : ℕ) → timeslotInside s at to ≡ true → (to ≤ length s) × TimeslotLength (to - at)
 unfolding timeslotInside
-timeslot-fits s at to e = let ends = was-ge _ _ _ _ _ e no in (ends .0, length-known _ (ends .1))
+timeslot-fits s at to e = let ends = was-ge _ _ _ _ _ e false≢true in (ends .0, length-known _ (ends .1))
 
 slotframe-fits : (s : List ℕ) (at : ℕ) → slotframeInside s at ≡ true → (getD s (at + 4) 0 ≤ 16) × (at + (5 + 5 * getD s (at + 4) 0) ≤ length s)
 unfolding slotframeInside
-slotframe-fits s at e = let few = was-ge _ _ _ _ _ e no in (few .0, bytes-fit s at _ (few .1))
+slotframe-fits s at e = let few = was-ge _ _ _ _ _ e false≢true in (few .0, bytes-fit s at _ (few .1))
 
 joining-fits : (s : List ℕ) (at to : ℕ) → joiningInside s at to ≡ true → (at ≡ 0 → ⊥) → JoiningInside s at to
 unfolding joiningInside isJoiningLength
 joining-fits s at to =
     each-eq (λ (r : Bool). r ≡ true → (at ≡ 0 → ⊥) → JoiningInside s at to) _ _ _ _ (λ none e some. absurd (some none))
     (λ there e some.
-    let ends = was-ge _ _ _ _ _ e no in
-    let least = was-ge _ _ _ _ _ (ends .1) no in
-    let most = was-ge _ _ _ _ _ (least .1) no in
+    let ends = was-ge _ _ _ _ _ e false≢true in
+    let least = was-ge _ _ _ _ _ (ends .1) false≢true in
+    let most = was-ge _ _ _ _ _ (least .1) false≢true in
     record { least = omega (arith, least .0); most = omega (arith, most .0); inside = ends .0 })
 
 module _ (s : List ℕ) (walk : Walk) where
   pub inside-facts : liesInside s walk ≡ true → ElementsInside s walk
   unfolding liesInside
   inside-facts e =
-      let synchronization = both (bytesInside s (walk .synchronization) 6) _ e in
-      let timeslot = both (timeslotInside s (walk .timeslot) (walk .timeslotend)) _ (synchronization .1) in
-      let hopping = both (bytesInside s (walk .hopping) 1) _ (timeslot .1) in
-      let slotframe = both (slotframeInside s (walk .slotframe)) _ (hopping .1) in
+      let synchronization = and-eq-true-iff (bytesInside s (walk .synchronization) 6) _ .0 e in
+      let timeslot = and-eq-true-iff (timeslotInside s (walk .timeslot) (walk .timeslotend)) _ .0 (synchronization .1) in
+      let hopping = and-eq-true-iff (bytesInside s (walk .hopping) 1) _ .0 (timeslot .1) in
+      let slotframe = and-eq-true-iff (slotframeInside s (walk .slotframe)) _ .0 (hopping .1) in
       let template = timeslot-fits s (walk .timeslot) (walk .timeslotend) (timeslot .0) in
       let links = slotframe-fits s (walk .slotframe) (slotframe .0) in
       record {

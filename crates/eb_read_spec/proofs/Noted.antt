@@ -74,78 +74,49 @@ limits-passed s at e =
     let some : getD s (at + 4) 0 ≡ 0 → ⊥ = links .0 in
     record { some = omega arith; few = most .0; sized = omega arith; below = all .0 }
 
-slotframe-passed : (s : List ℕ) (at bytes seen : ℕ) → slotframeFaultAt s at bytes seen ≡ 0 → SlotframePassed s at
-unfolding slotframeFaultAt slotframeFault
-slotframe-passed s at bytes seen =
-    each-eq (λ (n : ℕ). n ≡ 0 → SlotframePassed s at) _ _ _ _ (λ shaped e. limits-passed s at (was-eq _ _ _ _ _ e twice .1)) (λ misshapen e. absurd (misshapen e))
-
-timeslot-passed : (s : List ℕ) (at to seen : ℕ) → timeslotFault (to - at) seen (getD s at 0) ≡ 0 → TimeslotPassed s at to
-unfolding timeslotFault
-timeslot-passed s at to seen =
-    λ e.
-    let shaped = was-off _ _ _ _ e wrong-shape in
-    let once = was-eq _ _ _ _ _ (shaped .1) twice in
-    let within = was-off _ _ _ _ (once .1) over-limits .0 in
-    by-test (eqb (to - at) 1)
-    (λ alone. inr (inr (eqb-true (to - at) 1 alone, eqb-true (getD s at 0) 0 (not-false _ (rw alone at within)))))
-    (λ long. by-test (eqb (to - at) 25) (λ of-25. inl (eqb-true (to - at) 25 of-25)) (λ other. inr (inl (eqb-true (to - at) 27 (not-false _ (rw (long, other) at (shaped .0)))))))
-
-joining-passed : (s : List ℕ) (at to seen : ℕ) → joiningFault (to - at) seen (getD s at 0 / 64 % 2) ≡ 0 → JoiningPassed s at to
-unfolding joiningFault
-joining-passed s at to seen e =
-    let four = was-ge _ _ _ _ _ e wrong-shape in
-    let least = was-ge _ _ _ _ _ (four .1) wrong-shape in
-    let most = was-ge _ _ _ _ _ (least .1) wrong-shape in
-    record { least = least .0; most = most .0 }
-
--- ---- and where it ends
-sync-ends : (from to seen end : ℕ) → to ≤ end → syncFault (to - from) seen ≡ 0 → from + 6 ≤ end
-unfolding syncFault
-sync-ends from to seen end h e = let six = was-eq _ _ _ _ _ e wrong-shape .0 in omega (arith, six, h)
-
-hopping-ends : (from to seen end : ℕ) → to ≤ end → hoppingFault (to - from) seen ≡ 0 → from + 1 ≤ end
-unfolding hoppingFault
-hopping-ends from to seen end h e = let some : to - from ≡ 0 → ⊥ = was-ne _ _ _ _ _ e wrong-shape .0 in omega arith
-
-shape-ends : (from to count links end : ℕ) → to ≤ end → slotframeShape (to - from) count links ≡ 0 → from + (5 + 5 * links) ≤ end
+shape-passed : (bytes count n : ℕ) → slotframeShape bytes count n ≡ 0 → (count ≡ 1) × (bytes ≡ 5 + 5 * n)
 unfolding slotframeShape
-shape-ends from to count links end h e =
-    let least = was-ge _ _ _ _ _ e wrong-shape in
-    let one = was-eq _ _ _ _ _ (least .1) over-limits in
-    let long = was-eq _ _ _ _ _ (one .1) wrong-shape .0 in
-    omega (arith, long, h)
+shape-passed bytes count n e =
+    let one = was-eq _ _ _ _ _ (was-ge _ _ _ _ _ e wrong-shape .1) over-limits in
+    (one .0, was-eq _ _ _ _ _ (one .1) wrong-shape .0)
 
-slotframe-ends : (s : List ℕ) (from to seen end : ℕ) → to ≤ end → slotframeFaultAt s from (to - from) seen ≡ 0 → from + (5 + 5 * getD s (from + 4) 0) ≤ end
-unfolding slotframeFaultAt slotframeFault
-slotframe-ends s from to seen end h =
-    each-eq (λ (n : ℕ). n ≡ 0 → from + (5 + 5 * getD s (from + 4) 0) ≤ end) _ _ _ _ (λ shaped e. shape-ends from to _ _ end h shaped) (λ misshapen e. absurd (misshapen e))
-
--- by its kind
 module _ (s : List ℕ) (from to : ℕ) (seen : Seen) where
-  pub kind-slotframe : partFault s 27 from to seen ≡ 0 → SlotframePassed s from
-  unfolding partFault ifEq
-  kind-slotframe e = slotframe-passed s from (to - from) (seen .slotframe) e
+  pub kind-slotframe : partFault s 27 from to seen ≡ 0 → SlotframePassed s from × (getD s from 0 ≡ 1) × (to - from ≡ 5 + 5 * getD s (from + 4) 0)
+  unfolding partFault slotframeFaultAt slotframeFault ifEq
+  kind-slotframe =
+      each-eq (λ (n : ℕ). n ≡ 0 → SlotframePassed s from × (getD s from 0 ≡ 1) × (to - from ≡ 5 + 5 * getD s (from + 4) 0)) _ _ (slotframeShape (to - from) (getD s from 0) (getD s (from + 4) 0)) 0
+      (λ shaped e. let shape = shape-passed _ _ _ shaped in (limits-passed s from (was-eq _ _ _ (seen .slotframe) 0 e twice .1), shape .0, shape .1)) (λ misshapen e. absurd (misshapen e))
 
   pub kind-timeslot : partFault s 28 from to seen ≡ 0 → TimeslotPassed s from to
-  unfolding partFault ifEq
-  kind-timeslot e = timeslot-passed s from to (seen .timeslot) e
+  unfolding partFault timeslotFault ifEq
+  kind-timeslot e =
+      let shaped = was-off _ _ _ _ e wrong-shape in
+      let once = was-eq _ _ _ (seen .timeslot) 0 (shaped .1) twice in
+      let within = was-off _ _ _ _ (once .1) over-limits .0 in
+      by-test (eqb (to - from) 1)
+      (λ alone. inr (inr (eqb-true (to - from) 1 alone, eqb-true (getD s from 0) 0 (not-false _ (rw alone at within)))))
+      (λ long. by-test (eqb (to - from) 25) (λ of-25. inl (eqb-true (to - from) 25 of-25)) (λ other. inr (inl (eqb-true (to - from) 27 (not-false _ (rw (long, other) at (shaped .0)))))))
 
   pub kind-joining : partFault s 258 from to seen ≡ 0 → JoiningPassed s from to
-  unfolding partFault ifEq
-  kind-joining e = joining-passed s from to (seen .joining) e
+  unfolding partFault joiningFault ifEq
+  kind-joining e =
+      let four = was-ge _ _ _ _ _ e wrong-shape in
+      let least = was-ge _ _ _ _ _ (four .1) wrong-shape in
+      let most = was-ge _ _ _ _ _ (least .1) wrong-shape in
+      record { least = least .0; most = most .0 }
 
+  -- and where it ends
   module _ (end : ℕ) (h : to ≤ end) where
-    pub kind-sync-ends : partFault s 26 from to seen ≡ 0 → from + 6 ≤ end
-    unfolding partFault ifEq
-    kind-sync-ends e = sync-ends from to (seen .synchronization) end h e
+    sync-ends : partFault s 26 from to seen ≡ 0 → from + 6 ≤ end
+    unfolding partFault syncFault ifEq
+    sync-ends e = let six = was-eq _ _ _ (to - from) 6 e wrong-shape .0 in omega (arith, six)
 
-    pub kind-hopping-ends : partFault s 137 from to seen ≡ 0 → from + 1 ≤ end
-    unfolding partFault ifEq
-    kind-hopping-ends e = hopping-ends from to (seen .hopping) end h e
+    hopping-ends : partFault s 137 from to seen ≡ 0 → from + 1 ≤ end
+    unfolding partFault hoppingFault ifEq
+    hopping-ends e = let some : to - from ≡ 0 → ⊥ = was-ne _ _ _ _ _ e wrong-shape .0 in omega arith
 
-    pub kind-slotframe-ends : partFault s 27 from to seen ≡ 0 → from + (5 + 5 * getD s (from + 4) 0) ≤ end
-    unfolding partFault ifEq
-    kind-slotframe-ends e = slotframe-ends s from to (seen .slotframe) end h e
+    slotframe-ends : partFault s 27 from to seen ≡ 0 → from + (5 + 5 * getD s (from + 4) 0) ≤ end
+    slotframe-ends e = omega (arith, kind-slotframe e .2)
 
 -- ---- the walk
 module _ (s : List ℕ) (end : ℕ) where
@@ -191,13 +162,13 @@ module _ (s : List ℕ) (end : ℕ) where
       taken-noted e =
           let q = seenOf w in
           record {
-            slotframe = each-eq (λ (at : ℕ). (at ≡ 0 → ⊥) → SlotframePassed s at) _ _ _ _ (λ k some. kind-slotframe s from to q (rw k at e)) (λ k. h .slotframe);
+            slotframe = each-eq (λ (at : ℕ). (at ≡ 0 → ⊥) → SlotframePassed s at) _ _ _ _ (λ k some. kind-slotframe s from to q (rw k at e) .0) (λ k. h .slotframe);
             timeslot = each-eq-2 (λ (at stop : ℕ). (at ≡ 0 → ⊥) → TimeslotPassed s at stop) _ _ _ _ _ _ (λ k some. kind-timeslot s from to q (rw k at e)) (λ k. h .timeslot);
             joining = each-eq-2 (λ (at stop : ℕ). (at ≡ 0 → ⊥) → JoiningPassed s at stop) _ _ _ _ _ _ (λ k some. kind-joining s from to q (rw k at e)) (λ k. h .joining);
-            synchronizationEnd = each-eq (λ (at : ℕ). (at ≡ 0 → ⊥) → at + 6 ≤ end) _ _ _ _ (λ k some. kind-sync-ends s from to q end before (rw k at e)) (λ k. h .synchronizationEnd);
+            synchronizationEnd = each-eq (λ (at : ℕ). (at ≡ 0 → ⊥) → at + 6 ≤ end) _ _ _ _ (λ k some. sync-ends s from to q end before (rw k at e)) (λ k. h .synchronizationEnd);
             timeslotEnd = each-eq-2 (λ (at stop : ℕ). (at ≡ 0 → ⊥) → stop ≤ end) _ _ _ _ _ _ (λ k some. before) (λ k. h .timeslotEnd);
-            hoppingEnd = each-eq (λ (at : ℕ). (at ≡ 0 → ⊥) → at + 1 ≤ end) _ _ _ _ (λ k some. kind-hopping-ends s from to q end before (rw k at e)) (λ k. h .hoppingEnd);
-            slotframeEnd = each-eq (λ (at : ℕ). (at ≡ 0 → ⊥) → at + (5 + 5 * getD s (at + 4) 0) ≤ end) _ _ _ _ (λ k some. kind-slotframe-ends s from to q end before (rw k at e)) (λ k. h .slotframeEnd);
+            hoppingEnd = each-eq (λ (at : ℕ). (at ≡ 0 → ⊥) → at + 1 ≤ end) _ _ _ _ (λ k some. hopping-ends s from to q end before (rw k at e)) (λ k. h .hoppingEnd);
+            slotframeEnd = each-eq (λ (at : ℕ). (at ≡ 0 → ⊥) → at + (5 + 5 * getD s (at + 4) 0) ≤ end) _ _ _ _ (λ k some. slotframe-ends s from to q end before (rw k at e)) (λ k. h .slotframeEnd);
             joiningEnd = each-eq-2 (λ (at stop : ℕ). (at ≡ 0 → ⊥) → stop ≤ end) _ _ _ _ _ _ (λ k some. before) (λ k. h .joiningEnd);
           }
 

@@ -24,31 +24,24 @@ use Rattle.eb_read_spec.specs.Policy.{formFault, policyFault, macHeaderF
 use Rattle.eb_read_spec.proofs.Keeps.{Kept, list-keeps}
 use Rattle.eb_read_spec.specs.declared.Examination.{Examination}
 use Rattle.eb_read_spec.specs.Read.{walkStart, skippedBefore, behindHeader, elementsWalk, missing, walkNumber, examined}
+use mir.Facts.{and-yes}
 
 -- a number from 0 to 8 but 1, as a test that computes at a literal
 abbrev Small : ℕ → Type 0
 Small n = T (leb n 8 && not (eqb n 1))
 
-pub both-left : (a b : Bool) → T (a && b) → T a
-both-left true b t = tt
-both-left false b t = t
-
-pub both-right : (a b : Bool) → T (a && b) → T b
-both-right true b t = t
-both-right false b t = absurd t
-
 pub at-most-8 : (n : ℕ) → Small n → n ≤ 8
-at-most-8 n h = leb→le n 8 (both-left (leb n 8) (not (eqb n 1)) h)
+at-most-8 n h = leb→le n 8 (and-yes (leb n 8) (not (eqb n 1)) h .0)
 
 pub not-1 : (n : ℕ) → Small n → n ≡ 1 → ⊥
-not-1 n h e = T-not (eqb n 1) (both-right (leb n 8) (not (eqb n 1)) h) (subst (λ (k : ℕ). T (eqb k 1)) (sym e) tt)
+not-1 n h e = T-not (eqb n 1) (and-yes (leb n 8) (not (eqb n 1)) h .1) (subst (λ (k : ℕ). T (eqb k 1)) (sym e) tt)
 
 -- a number that faults of elements and missing elements have: none of 1, 3, 4 and 5
 abbrev pub Late : ℕ → Type 0
 Late n = T (not (eqb n 3) && (not (eqb n 4) && (not (eqb n 5) && (leb n 8 && not (eqb n 1)))))
 
 pub late-small : (n : ℕ) → Late n → Small n
-late-small n h = both-right (not (eqb n 5)) _ (both-right (not (eqb n 4)) _ (both-right (not (eqb n 3)) _ h))
+late-small n h = and-yes (not (eqb n 5)) _ (and-yes (not (eqb n 4)) _ (and-yes (not (eqb n 3)) _ h .1) .1) .1
 
 -- ---- the checks before the elements
 form-small : (c : Control) → Small (formFault c)

@@ -12,6 +12,7 @@ use Rattle.mac_header_spec.specs.Fields.{addressLength, offsetsOf, macHeaderOf}
 use Rattle.mac_header_spec.specs.declared.Control.{Control}
 use Rattle.mac_header_spec.specs.declared.FieldOffsets.{FieldOffsets}
 use Rattle.mac_header_spec.specs.declared.MacHeader.{MacHeader}
+use Rattle.mac_header_spec.proofs.ControlLaws.{starts-are, ends-are}
 use Rattle.eb_read_spec.specs.Policy.{formFault, policyFault, macHeaderFault}
 
 -- what has the accepted form has a short destination
@@ -72,20 +73,15 @@ module _ (s : List ℕ) where
       frame-form bad = frame-policy fault (bad-form (length s) (macHeaderOf s) short whole fault formed bad)
 
       module _ (good : fault ≡ 0) (offsets : FieldOffsets) (g : offsets ≡ offsetsOf control (length s)) where
-        ends : offsets .end ≡ macHeaderOf s .end
-        unfolding macHeaderOf
-        ends = rw (g, f, e)
-
-        starts : offsets .elements ≡ macHeaderOf s .elements
-        unfolding macHeaderOf
-        starts = rw (g, f, e)
+        places : (offsets .end ≡ macHeaderOf s .end) × (offsets .elements ≡ macHeaderOf s .elements)
+        places = (ends-are s word control offsets e f g, starts-are s word control offsets e f g)
 
         pub frame-cut : offsets .end < offsets .elements → 2 ≡ macHeaderFault s
-        frame-cut h = frame-policy 2 (fields-cut (length s) (macHeaderOf s) short whole fault formed good (rw (ends, starts) at h))
+        frame-cut h = frame-policy 2 (fields-cut (length s) (macHeaderOf s) short whole fault formed good (rw (places .0, places .1) at h))
 
         module _ (there : offsets .elements ≤ offsets .end) (destination : ℕ) (d : destination ≡ leAt 2 s (offsets .destination)) where
           whole-fields : macHeaderOf s .elements ≤ macHeaderOf s .end
-          whole-fields = rw (ends, starts) at there
+          whole-fields = rw (places .0, places .1) at there
 
           -- in a frame of the accepted form the destination is short
           destination-is : destination ≡ macHeaderOf s .destination

@@ -4,16 +4,12 @@ use mathlib.Core.Path.{_≡_, refl}
 use mathlib.Core.Bool.{Bool, true, false, cond, _||_}
 use mathlib.Core.List.{List}
 use lib.Dec.{eqb}
-use lib.ListN.{length}
 use Rattle.octets_spec.specs.Choice.{ifEq}
-use Rattle.octets_spec.specs.Number.{leAt}
 use Rattle.octets_spec.proofs.ChoiceLaws.{if-eq, if-ne}
 use Rattle.eb_record_spec.specs.Record.{blankBeacon}
 use Rattle.eb_record_spec.specs.declared.Beacon.{Beacon}
-use Rattle.mac_header_spec.specs.Control.{controlOf}
-use Rattle.mac_header_spec.specs.Fields.{offsetsOf, macHeaderOf}
-use Rattle.mac_header_spec.specs.declared.Control.{Control}
-use Rattle.mac_header_spec.specs.declared.FieldOffsets.{FieldOffsets}
+use Rattle.mac_header_spec.specs.Fields.{macHeaderOf}
+use Rattle.mac_header_spec.proofs.ControlLaws.{starts-are, ends-are}
 use Rattle.ie_walk_spec.specs.Walk.{blankWalk, besides, headerList, skippedOver, payloadList}
 use Rattle.ie_walk_spec.specs.declared.Walk.{Walk}
 use Rattle.ie_walk_spec.specs.declared.HeaderListEnd.{HeaderListEnd}
@@ -50,16 +46,6 @@ module _ (s : List ℕ) (end : ℕ) (head : HeaderListEnd) where
 pub elements-are : (s : List ℕ) (at end : ℕ) (head : HeaderListEnd) (w : Walk) → head ≡ skippedOver (headerList s at end) → w ≡ behindHeader s head end → w ≡ elementsWalk s at end
 unfolding elementsWalk
 elements-are s at end head w e f = rw (← e) f
-
--- where the elements are, as the code finds it
-module _ (s : List ℕ) (word : ℕ) (control : Control) (found : FieldOffsets) (e : word ≡ leAt 2 s 0) (f : control ≡ controlOf word) (g : found ≡ offsetsOf control (length s)) where
-  pub starts-are : found .elements ≡ macHeaderOf s .elements
-  unfolding macHeaderOf
-  starts-are = rw (g, f, e)
-
-  pub ends-are : found .end ≡ macHeaderOf s .end
-  unfolding macHeaderOf
-  ends-are = rw (g, f, e)
 
 pub behind-at : (s : List ℕ) (end : ℕ) (head : HeaderListEnd) (r : Walk) → end ≡ macHeaderOf s .end → r ≡ behindHeader s head end → r ≡ behindHeader s head (macHeaderOf s .end)
 behind-at s end head r e f = rw e at f

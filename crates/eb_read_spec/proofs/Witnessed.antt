@@ -21,7 +21,7 @@ use Rattle.eb_read_spec.specs.Read.{walkStart, skippedBefore, behindHead
 use Rattle.eb_read_spec.specs.Claims.{Bytes}
 use Rattle.eb_read_spec.specs.Witnesses.{shortest, ShortestIsRead, SomeFrameIsAccepted, SomeFrameHasJoiningInformation, EachNumberIsGiven}
 use Rattle.eb_read_spec.proofs.Claimed.{number-of}
-use Rattle.eb_read_spec.proofs.Numbers.{both-left, both-right}
+use mir.Facts.{and-yes}
 
 both-read : ShortestIsRead × SomeFrameHasJoiningInformation
 unfolding ifOn ifLt ifEq counted padded leAt beAt controlOf formFault addressLength offsetsOf macHeaderOf policyFault macHeaderFault headerWord headerAt groupOf outerWord outerAt innerWord innerAt onceOnly syncFault timeslotFault hoppingFault slotframeShape slotframeLimits slotframeFault joiningFault timeslotsFit slotframeFaultAt partFault inFront skippedOver seenOf skipOne taken stopped partTaken headerGo headerList outerGo groupGo payloadList sequenceOf addressOf synchronizationAt timingAt templateAt linkAt slotframeAt networkOffset joiningAt decoded walkStart blankWalk skippedBefore behindHeader elementsWalk missing walkNumber examined readFrame
@@ -40,8 +40,8 @@ small (b ∷ bs) = ltb b 256 && small bs
 
 pub bytes : (s : List ℕ) → T (small s) → Bytes s
 bytes [] t i = lit< tt
-bytes (b ∷ bs) t zero = ltb→lt b 256 (both-left (ltb b 256) (small bs) t)
-bytes (b ∷ bs) t (suc i) = bytes bs (both-right (ltb b 256) (small bs) t) i
+bytes (b ∷ bs) t zero = ltb→lt b 256 (and-yes (ltb b 256) (small bs) t .0)
+bytes (b ∷ bs) t (suc i) = bytes bs (and-yes (ltb b 256) (small bs) t .1) i
 
 pub shortest-done : readFrame shortest .number ≡ 0
 shortest-done = rw (shortest-is-read .0) refl

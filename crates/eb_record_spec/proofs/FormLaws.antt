@@ -1,7 +1,7 @@
 -- The form of a record and the record of a form are inverses of each other. Assumes nothing.
 use Prim.Native.Nat.{ℕ, _^_}
 use mathlib.Core.Path.{_≡_, refl, sym, ap}
-use mathlib.Core.Bool.{Bool, true, false, _&&_, _||_}
+use mathlib.Core.Bool.{Bool, true, false, _&&_, _||_, and-eq-true-iff}
 use native.Mathlib.Nat.{mod-eq-of-lt}
 use borrow.Author.Tests.{ltb-true, eqb-true}
 use lib.Dec.{ltb, eqb}
@@ -12,11 +12,6 @@ use Rattle.mac_header_spec.specs.declared.Address.{Address}
 use Rattle.mac_header_spec.specs.declared.Address.the-variants.{Short, Extended}
 use Rattle.eb_record_spec.specs.declared.Beacon.{Beacon}
 use Rattle.eb_record_spec.specs.Form.{isSequenced, sequenceNumber, isExtended, addressNumber, formOf, sequenceFrom, sourceFrom, beaconOf, isBeacon, sourceFits, FormsGiveTheRecord, RecordsGiveTheForm, ExtendedHasItsForm, FormsOfNoRecord}
-
--- ---- two tests at once
-both : (x y : Bool) → x && y ≡ true → (x ≡ true) × (y ≡ true)
-both true y e = (refl, e)
-both false y e = (e, cc)
 
 -- ---- the sequence number
 abbrev sequenceTest : Bool → ℕ → Bool
@@ -74,7 +69,7 @@ form-fits beacon fits = rw (sequence-tested (beacon .sequence), source-tested (b
 pub form-back : (beacon : Beacon) → isBeacon (formOf beacon) ≡ true → beaconOf (formOf beacon) ≡ beacon
 unfolding isBeacon formOf beaconOf
 form-back beacon is =
-    let source = both (sequenceTest (isSequenced (beacon .sequence)) (sequenceNumber (beacon .sequence))) (sourceTest (isExtended (beacon .source)) (addressNumber (beacon .source))) is .1 in
+    let source = and-eq-true-iff (sequenceTest (isSequenced (beacon .sequence)) (sequenceNumber (beacon .sequence))) (sourceTest (isExtended (beacon .source)) (addressNumber (beacon .source))) .0 is .1 in
     rw (sequence-back (beacon .sequence), source-back (beacon .source) source)
 
 pub forms-give-the-record : FormsGiveTheRecord
@@ -83,7 +78,7 @@ forms-give-the-record beacon fits = let is = form-fits beacon fits in (is, form-
 pub records-give-the-form : RecordsGiveTheForm
 unfolding isBeacon formOf beaconOf
 records-give-the-form form is =
-    let tests = both _ _ is in
+    let tests = and-eq-true-iff _ _ .0 is in
     rw (sequence-mark (form .sequenced) (form .sequence), sequence-number (form .sequenced) (form .sequence) (tests .0), source-kind (form .extended) (form .source), source-number (form .extended) (form .source) (tests .1))
 
 -- a record with an extended source, and forms that are no record's: the checker computes them

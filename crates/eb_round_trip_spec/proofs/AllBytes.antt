@@ -1,7 +1,7 @@
--- Lists of which every entry is a byte: their parts, the numbers in them, and the tests that they pass. Assumes nothing.
+-- Lists of which every entry is a byte: their parts, the numbers in them, and the tests that they pass. Tests that hold together. Assumes nothing.
 use Prim.Native.Nat.{ℕ, zero, suc, _+_, _^_, _<_, _≤_}
 use mathlib.Core.Path.{_≡_, refl}
-use mathlib.Core.Bool.{true, and-eq-true-iff}
+use mathlib.Core.Bool.{true, and-eq-true-iff, Bool, _&&_}
 use mathlib.Core.List.{List, [], _∷_, _++_}
 use native.Mathlib.Nat.{pow-suc, mul-le-mul-left}
 use native.Mathlib.Omega.{arith}
@@ -11,7 +11,15 @@ use lib.ListN.{length, getD, take, drop, replicate}
 use Rattle.eb_write_spec.specs.Limits.{allOf, allBelow}
 use Rattle.eb_read_spec.specs.Claims.{Bytes}
 use Rattle.eb_grammar_spec.specs.Row.{le, be, Row, last, next}
-use Rattle.eb_round_trip_spec.proofs.ListLaws.{also}
+
+-- both tests hold
+pub also : {a b : Bool} → a ≡ true → b ≡ true → (a && b) ≡ true
+also e f = rw e f
+
+pub all-blank : {A : Type 0} (test : A → Bool) (n : ℕ) (x : A) → test x ≡ true → allOf test (replicate n x) ≡ true
+unfolding allOf
+all-blank test zero x h = refl
+all-blank test (suc n) x h = also h (all-blank test n x h)
 
 -- every entry is a byte
 pub data All : List ℕ → Type 0 where

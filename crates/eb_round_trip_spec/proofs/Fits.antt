@@ -26,8 +26,7 @@ use Rattle.eb_grammar_spec.specs.Row.{le, be, bits}
 use Rattle.eb_grammar_spec.specs.Grammar.{SequenceBytes, numbered, suppressed, SourceBytes, short-source, extended-source, FixedFields, fixed-fields, TimeslotContent, id-alone, timed-25, timed-27, Links, no-links, one-link, SlotframeContent, slotframe, JoiningContent, absent, joining}
 use Rattle.eb_grammar_spec.proofs.Rowed.{total, row-length}
 use Rattle.eb_grammar_spec.proofs.Joined.{nothing}
-use Rattle.eb_round_trip_spec.proofs.ListLaws.{also, all-blank}
-use Rattle.eb_round_trip_spec.proofs.AllBytes.{All, parts, first-byte, behind-byte, below-all, le-small, be-small, Bounded, row-bounded, bounded-take, row-entry, Each, weights}
+use Rattle.eb_round_trip_spec.proofs.AllBytes.{All, parts, first-byte, behind-byte, below-all, le-small, be-small, Bounded, row-bounded, bounded-take, row-entry, Each, weights, also, all-blank}
 
 -- ---- what stands before the elements
 sequence-fits : (k : ℕ) (xs : List ℕ) (n : SequenceNumber) → SequenceBytes k xs n → All xs → (sequenceFits n ≡ true) × (length xs ≡ length (sequenceBytes n))

@@ -20,10 +20,6 @@ use Rattle.eb_write_spec.specs.Limits.{allOf, allBelow, sequenceFits, synchroni
 use Rattle.eb_record_spec.specs.Form.{sourceFits}
 use Rattle.eb_round_trip_spec.specs.ReadBack.{Sized}
 
--- both parts of a conjunction
-both : (a b : Bool) → (a && b) ≡ true → (a ≡ true) × (b ≡ true)
-both a b = and-eq-true-iff a b .0
-
 -- each test of a row of them
 abbrev every : List Bool → Bool
 every [] = true
@@ -34,8 +30,8 @@ each : (ts : List Bool) → every ts ≡ true → (i : ℕ) → getD ts i true �
 each [] h i = refl
 each (t ∷ []) h zero = h
 each (t ∷ []) h (suc i) = refl
-each (t ∷ u ∷ ts) h zero = both t (every (u ∷ ts)) h .0
-each (t ∷ u ∷ ts) h (suc i) = each (u ∷ ts) (both t (every (u ∷ ts)) h .1) i
+each (t ∷ u ∷ ts) h zero = and-eq-true-iff t (every (u ∷ ts)) .0 h .0
+each (t ∷ u ∷ ts) h (suc i) = each (u ∷ ts) (and-eq-true-iff t (every (u ∷ ts)) .0 h .1) i
 
 -- the part of a choice that counts
 pub on-on : (test x y : Bool) → ifOn test x y ≡ true → test ≡ true → x ≡ true
@@ -51,14 +47,14 @@ module _ {A : Type 0} (test : A → Bool) where
   all-at : (xs : List A) (blank : A) (i : ℕ) → i < length xs → allOf test xs ≡ true → test (getD xs i blank) ≡ true
   unfolding allOf
   all-at [] blank i l h = absurd (omega arith)
-  all-at (x ∷ xs) blank zero l h = both (test x) (allOf test xs) h .0
-  all-at (x ∷ xs) blank (suc i) l h = all-at xs blank i (omega arith) (both (test x) (allOf test xs) h .1)
+  all-at (x ∷ xs) blank zero l h = and-eq-true-iff (test x) (allOf test xs) .0 h .0
+  all-at (x ∷ xs) blank (suc i) l h = all-at xs blank i (omega arith) (and-eq-true-iff (test x) (allOf test xs) .0 h .1)
 
   all-blank : (blank : A) → ((x : A) → test x ≡ true → x ≡ blank) → (xs : List A) → allOf test xs ≡ true → xs ≡ replicate (length xs) blank
   unfolding allOf
   all-blank blank one [] h = refl
   all-blank blank one (x ∷ xs) h =
-      let k = both (test x) (allOf test xs) h in
+      let k = and-eq-true-iff (test x) (allOf test xs) .0 h in
       rw (one x (k .0), ← all-blank blank one xs (k .1))
 
 pub below-at : (bound : ℕ) (ns : List ℕ) (i : ℕ) → i < length ns → allBelow bound ns ≡ true → getD ns i 0 < bound
@@ -106,9 +102,9 @@ template-within t sized h =
     let first : length (take 10 (t .timings)) ≡ 10 = length-take-le 10 (t .timings) (omega arith) in
     record {
       id = ltb-true _ _ (k 0);
-      bare = λ e. let u = both (eqb (t .id) 0) (allBelow 1 (t .timings)) (off-on (t .timed) timed bare (k 1) e) in (eqb-true _ _ (u .0), zeros (t .timings) (u .1) ∙ rw sized);
-      early = λ e i l. rw (getD-take 10 (t .timings) i 0 l) at (below-at (2 ^ 16) (take 10 (t .timings)) i (omega arith) (both _ (allBelow (2 ^ 24) (drop 10 (t .timings))) (on-on (t .timed) timed bare (k 1) e) .0));
-      late = λ e. both (allBelow (2 ^ 16) (take 10 (t .timings))) _ (on-on (t .timed) timed bare (k 1) e) .1;
+      bare = λ e. let u = and-eq-true-iff (eqb (t .id) 0) (allBelow 1 (t .timings)) .0 (off-on (t .timed) timed bare (k 1) e) in (eqb-true _ _ (u .0), zeros (t .timings) (u .1) ∙ rw sized);
+      early = λ e i l. rw (getD-take 10 (t .timings) i 0 l) at (below-at (2 ^ 16) (take 10 (t .timings)) i (omega arith) (and-eq-true-iff _ (allBelow (2 ^ 24) (drop 10 (t .timings))) .0 (on-on (t .timed) timed bare (k 1) e) .0));
+      late = λ e. and-eq-true-iff (allBelow (2 ^ 16) (take 10 (t .timings))) _ .0 (on-on (t .timed) timed bare (k 1) e) .1;
     }
 
 -- ---- slotframe

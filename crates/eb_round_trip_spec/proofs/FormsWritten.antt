@@ -24,7 +24,7 @@ use Rattle.eb_round_trip_spec.specs.ReadBack.{FormsReadBack}
 use Rattle.eb_round_trip_spec.specs.Accepted.{AcceptedReadsBack, ReadFormsAreWritten, ShortestFormIsWritten}
 use Rattle.eb_round_trip_spec.proofs.ReadsBack.{frames-read-back}
 use Rattle.eb_round_trip_spec.proofs.NotLonger.{accepted-fits, read-sized, written-is-not-longer, written-is-short}
-use Rattle.eb_round_trip_spec.proofs.Witness.{shortest-is-written-back}
+use Rattle.eb_round_trip_spec.proofs.Shortest.{shortest-is-written-back}
 
 module _ (beacon : Beacon) (within : fits beacon ≡ true) where
   source-fits : sourceFits (beacon .source) ≡ true

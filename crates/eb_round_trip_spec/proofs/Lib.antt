@@ -1,4 +1,3 @@
-pub mod ListLaws
 pub mod AllBytes
 pub mod Fits
 pub mod NotLonger
@@ -6,7 +5,6 @@ pub mod Fitting
 pub mod OfTheGrammar
 pub mod FrameLengths
 pub mod ReadsBack
-pub mod Witness
 pub mod Shortest
 pub mod RoundTripLaws
 pub mod FormsWritten

@@ -22,8 +22,7 @@ use Rattle.eb_grammar_spec.proofs.Agreed.{sound}
 use Rattle.eb_grammar_spec.proofs.Rowed.{total, row-length}
 use Rattle.eb_round_trip_spec.specs.ReadBack.{Sized}
 use Rattle.eb_round_trip_spec.specs.Accepted.{AcceptedFits, WrittenIsNotLonger, WrittenIsShort}
-use Rattle.eb_round_trip_spec.proofs.ListLaws.{also}
-use Rattle.eb_round_trip_spec.proofs.AllBytes.{All, all-of, parts, first-byte, behind-byte, row-entry, Each, weights}
+use Rattle.eb_round_trip_spec.proofs.AllBytes.{All, all-of, parts, first-byte, behind-byte, row-entry, Each, weights, also}
 use Rattle.eb_round_trip_spec.proofs.Fits.{FieldsFit, fields-fit, TemplateFits, template-fits, SlotframeFits, slotframe-fits, JoiningFits, joining-fits}
 
 -- ---- the bytes of sub-elements, and of IETF elements, with their descriptors and subtypes

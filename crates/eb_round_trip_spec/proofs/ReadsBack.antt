@@ -1,10 +1,9 @@
 -- What is written is bytes and is of the grammar, so that it reads back. Two frames differ therefore. Assumes nothing.
 use Prim.Native.Nat.{ℕ, zero, suc, _/_, _%_, _^_, _<_}
 use mathlib.Core.Path.{_≡_, refl, sym, _∙_, ap}
-use mathlib.Core.Bool.{Bool, true, false, and-eq-true-iff}
+use mathlib.Core.Bool.{Bool, true, false, and-false}
 use mathlib.Core.List.{List, [], _∷_}
 use native.Mathlib.Omega.{arith}
-use lib.Dec.{ltb}
 use lib.ListN.{take}
 use Rattle.octets_spec.specs.Choice.{ifOn}
 use Rattle.octets_spec.specs.Number.{leBytes, beBytes}
@@ -18,11 +17,11 @@ use Rattle.eb_record_spec.specs.declared.Slotframe.{Slotframe}
 use Rattle.eb_record_spec.specs.declared.JoiningInformation.{JoiningInformation}
 use Rattle.eb_record_spec.specs.declared.Beacon.{Beacon}
 use Rattle.eb_write_spec.specs.Frame.{sequenceBytes, sourceBytes, macHeaderBytes, headerDescriptor, groupDescriptor, shortDescriptor, longDescriptor, numbersIn, synchronizationBytes, timingsBytes, templateBytes, hoppingBytes, linkBytes, linksBytes, slotframeBytes, groupBytes, joiningBytes, frameOf}
-use Rattle.eb_write_spec.specs.Limits.{allBelow, addressFits, presentFits, absentFits, joiningFits, fits}
+use Rattle.eb_write_spec.specs.Limits.{allBelow, presentFits, absentFits, joiningFits, fits}
 use Rattle.eb_read_spec.specs.Read.{readFrame}
 use Rattle.eb_read_spec.specs.declared.ReadAnswer.{ReadAnswer}
 use Rattle.eb_round_trip_spec.proofs.Fitting.{on-on}
-use Rattle.eb_write_spec.proofs.LengthLaws.{joining-on}
+use Rattle.eb_write_spec.proofs.LengthLaws.{joining-on, on}
 use Rattle.eb_round_trip_spec.specs.ReadBack.{FramesReadBack, FramesDiffer, WrittenIsOfTheGrammar}
 use Rattle.eb_round_trip_spec.proofs.AllBytes.{All, none, more, bytes-of, both, all-below}
 use Rattle.eb_round_trip_spec.proofs.OfTheGrammar.{derived}
@@ -78,13 +77,7 @@ all-slotframe f = both (all-le 2 _) (both (all-le 1 _) (both (all-le 1 _) (both 
 
 network-below : (j : JoiningInformation) → presentFits j ≡ true → allBelow 256 (take (j .length) (j .network)) ≡ true
 unfolding presentFits
-network-below j e =
-    let k₁ = and-eq-true-iff (ltb (j .proxy) 128) _ .0 e in
-    let k₂ = and-eq-true-iff (ltb (j .rank) 4096) _ .0 (k₁ .1) in
-    let k₃ = and-eq-true-iff (ltb (j .pan) 256) _ .0 (k₂ .1) in
-    let k₄ = and-eq-true-iff (addressFits j) _ .0 (k₃ .1) in
-    let k₅ = and-eq-true-iff (ltb (j .length) 17) _ .0 (k₄ .1) in
-    and-eq-true-iff (allBelow 256 (take (j .length) (j .network))) _ .0 (k₅ .1) .0
+network-below j e = on (allBelow 256 (take (j .length) (j .network))) (λ h. simp (h, and-false) at e)
 
 all-joining : (j : JoiningInformation) → joiningFits j ≡ true → All (joiningBytes j)
 unfolding joiningBytes groupDescriptor joiningFits

@@ -1,4 +1,5 @@
--- The least and the greatest frame, and a full one that can be written: three records, at which the checker computes. Assumes nothing.
+-- The least and the greatest frame, and a full one that can be written: three records, at which the checker computes; and the frame of 38
+-- bytes, which is written back as it was received. Assumes nothing.
 use mathlib.Core.Path.{_≡_, refl}
 use mathlib.Core.Bool.{true, false}
 use mathlib.Core.List.{[], _∷_, _++_}
@@ -14,6 +15,9 @@ use Rattle.eb_write_spec.specs.Frame.{suppressedBit, sequenceBytes, sourceMode,
 use Rattle.eb_write_spec.specs.Limits.{allOf, allBelow, sequenceFits, synchronizationFits, templateFits, linkFits, linkUnused, slotframeFits, addressFits, presentFits, absentFits, joiningFits, fits}
 use Rattle.eb_record_spec.specs.Form.{sourceFits}
 use Rattle.eb_round_trip_spec.specs.ReadBack.{Writable, LengthsAreMet, FullRecordIsWritable}
+use Rattle.eb_round_trip_spec.specs.Accepted.{ShortestIsWrittenBack}
+use Rattle.eb_read_spec.specs.Witnesses.{shortest, shortestRecord}
+use Rattle.eb_read_spec.proofs.Witnessed.{shortest-is-read, shortest-done, shortest-bytes}
 
 -- one link, nothing that may be left out
 abbrev small : Beacon
@@ -80,3 +84,10 @@ full-writable = record { sized = record { timings = refl; links = refl; network 
 pub full-record-is-writable : FullRecordIsWritable
 unfolding sourceMode
 full-record-is-writable = (full, full-writable, refl, refl, omega arith, refl, refl)
+
+record-is-written : frameOf shortestRecord ≡ shortest
+unfolding ifOn ifLt leBytes beBytes suppressedBit sequenceBytes sourceMode sourceBytes controlWord macHeaderBytes headerDescriptor groupDescriptor shortDescriptor longDescriptor numbersIn synchronizationBytes lastWidth timingsBytes templateSize templateBytes hoppingBytes linkBytes linksBytes slotframeBytes groupSize groupBytes joiningWord joiningSize joiningBytes frameOf
+record-is-written = refl
+
+pub shortest-is-written-back : ShortestIsWrittenBack
+shortest-is-written-back = (shortest-bytes, shortest-done, rw (shortest-is-read .0) record-is-written)

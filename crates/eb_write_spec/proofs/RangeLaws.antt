@@ -2,18 +2,15 @@
 use Prim.Native.Nat.{ℕ, suc, _-_, _<_, _≤_, min}
 use mathlib.Core.Path.{_≡_, refl, sym, _∙_}
 use mathlib.Core.Bool.{Bool, true, _&&_}
-use mathlib.Core.List.{List, [], _∷_, map}
+use mathlib.Core.List.{List, [], _∷_}
 use native.Mathlib.Omega.{arith}
 use lib.Dec.{ltb}
-use lib.ListN.{length, getD, take, drop, length-map, length-take, drop-of-length-le}
+use lib.ListN.{length, getD, take, drop, length-take, drop-of-length-le}
 use lib.Seq.{take-all, drop-cons, getD-take}
 use Rattle.octets_spec.proofs.ChoiceLaws.{by-lt}
+use Rattle.octets_spec.proofs.CountedLaws.{length-mapped}
 use Rattle.eb_write_spec.specs.Limits.{allOf}
 use Rattle.eb_write_spec.specs.Range.{allFrom, below}
-
--- an array of structs that is a field has its length
-pub length-mapped : {X Y : Type 0} (f : X → Y) (l : List X) (n : ℕ) → length (map f l) ≡ n → length l ≡ n
-length-mapped f l n e = sym (length-map l f) ∙ e
 
 -- ---- a range of a list, tested from its end back: the entries from i on are tested
 module _ {A : Type 0} (test : A → Bool) (xs : List A) (size : ℕ) (long : length xs ≡ size) where

@@ -2,17 +2,14 @@
 use Prim.Native.Nat.{ℕ, zero, suc, _+_, _*_, _/_, _%_, _^_, _<_, _≤_}
 use mathlib.Core.Path.{_≡_, refl, sym, _∙_, ap}
 use mathlib.Core.List.{List, [], _∷_, _++_, append-nil}
-use native.Mathlib.Nat.{add-zero, mul-assoc, pow-succ'}
+use native.Mathlib.Nat.{mul-assoc, pow-succ'}
 use native.Mathlib.Omega.{arith}
-use lib.ListN.{length, getD, set, take, drop, length-take, drop-of-length-le}
-use lib.Seq.{sets, drop-cons, getD-take}
+use lib.ListN.{length, getD, take, drop, length-take, drop-of-length-le}
+use lib.Seq.{drop-cons, getD-take}
 use Rattle.octets_spec.specs.Number.{leBytes, stored}
+use Rattle.octets_spec.proofs.PutLaws.{sets-append}
 
 -- ---- parts in a row
-sets-append : (s xs ys : List ℕ) (at : ℕ) → sets s at (xs ++ ys) ≡ sets (sets s at xs) (at + length xs) ys
-sets-append s [] ys at = rw (add-zero at)
-sets-append s (x ∷ xs) ys at = let offset : at + suc (length xs) ≡ suc at + length xs = omega arith in rw offset (sets-append (set s at x) xs ys (suc at))
-
 module _ (s : List ℕ) (at : ℕ) (xs ys t : List ℕ) (n : ℕ) (first : t ≡ stored s at xs) (long : length xs ≡ n) where
   pub two : (u : List ℕ) → u ≡ stored t (at + n) ys → u ≡ stored s at (xs ++ ys)
   unfolding stored

@@ -37,15 +37,6 @@ module _ (s : List ℕ) (from bytes seen : ℕ) where
     unfolding slotframeFaultAt slotframeFault
     frame-shape bad = rw (← c, ← l, ← e) (if-ne _ _ fault 0 bad refl)
 
-    module _ (good : fault ≡ 0) where
-      frame-again : (seen ≡ 0 → ⊥) → 7 ≡ slotframeFaultAt s from bytes seen
-      unfolding slotframeFaultAt slotframeFault
-      frame-again again = rw (← c, ← l, ← e) (if-eq _ _ fault 0 good (if-ne _ _ seen 0 again refl))
-
-      pub frame-limits : (size r : ℕ) (below : Bool) → seen ≡ 0 → size ≡ leAt 2 s (from + 2) → below ≡ timeslotsFit s (from + 5) links size → r ≡ slotframeLimits size links below → r ≡ slotframeFaultAt s from bytes seen
-      unfolding slotframeFaultAt slotframeFault
-      frame-limits size r below once z b k = rw (← c, ← l, ← e, ← z, ← b) (if-eq _ _ fault 0 good (if-eq _ _ seen 0 once k))
-
   pub frame-short : bytes < 5 → 6 ≡ slotframeFaultAt s from bytes seen
   unfolding slotframeShape
   frame-short h = frame-shape _ _ 6 refl refl (if-lt _ _ bytes 5 h refl) (λ (z : 6 ≡ 0). omega arith)
@@ -66,10 +57,12 @@ module _ (s : List ℕ) (from bytes seen : ℕ) where
         shaped = if-ge _ _ bytes 5 long (if-eq _ _ count 1 one (if-eq _ _ bytes _ exact refl))
 
         pub frame-twice : (seen ≡ 0 → ⊥) → 7 ≡ slotframeFaultAt s from bytes seen
-        frame-twice = frame-again count links 0 c l shaped refl
+        unfolding slotframeFaultAt slotframeFault
+        frame-twice again = rw (← c, ← l, ← shaped) (if-eq _ _ 0 0 refl (if-ne _ _ seen 0 again refl))
 
         pub frame-within : (size r : ℕ) (below : Bool) → seen ≡ 0 → size ≡ leAt 2 s (from + 2) → below ≡ timeslotsFit s (from + 5) links size → r ≡ slotframeLimits size links below → r ≡ slotframeFaultAt s from bytes seen
-        frame-within = frame-limits count links 0 c l shaped refl
+        unfolding slotframeFaultAt slotframeFault
+        frame-within size r below once z b k = rw (← c, ← l, ← shaped, ← z, ← b) (if-eq _ _ 0 0 refl (if-eq _ _ seen 0 once k))
 
 -- ---- an element by its kind
 module _ (s : List ℕ) (kind from to : ℕ) (seen : Seen) (bytes r : ℕ) (l : bytes ≡ to - from) where

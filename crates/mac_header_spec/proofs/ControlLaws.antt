@@ -43,6 +43,15 @@ pub sequence-small : (suppressed byte sequence : ℕ) → sequence ≡ ifEq supp
 sequence-small suppressed byte sequence e small = record { fits = rw e (either-eq (λ n. n < 256) byte 0 small (lit< tt) suppressed 0) }
 
 module _ (s : List ℕ) (word : ℕ) (control : Control) (found : FieldOffsets) (e : word ≡ leAt 2 s 0) (f : control ≡ controlOf word) (g : found ≡ offsetsOf control (length s)) where
+  -- where the elements are
+  pub starts-are : found .elements ≡ macHeaderOf s .elements
+  unfolding macHeaderOf
+  starts-are = rw (g, f, e)
+
+  pub ends-are : found .end ≡ macHeaderOf s .end
+  unfolding macHeaderOf
+  ends-are = rw (g, f, e)
+
   pub fields : (byte sequence pan destination source : ℕ) → byte ≡ getD s 2 0 → sequence ≡ ifEq (control .suppressed) 0 byte 0 → pan ≡ leAt 2 s (found .pan)
       → destination ≡ leAt (addressLength (control .destination)) s (found .destination) → source ≡ leAt (addressLength (control .source)) s (found .source)
       → record { control = control; sequence = sequence; pan = pan; destination = destination; source = source; elements = found .elements; end = found .end } ≡ macHeaderOf s

@@ -4,7 +4,7 @@ use Prim.Native.Nat.{ℕ, suc, _+_, _*_, _-_, _/_, _<_, _≤_}
 use native.Mathlib.Nat.{lt-div-mul-add, div-lt-iff-lt-mul, div-le-self, lt-of-mul-lt-mul-right, suc-mul}
 use native.Mathlib.Omega.{arith}
 use mathlib.Core.Path.{_≡_, refl, sym, _∙_}
-use mathlib.Core.Bool.{Bool, true, false, _&&_}
+use mathlib.Core.Bool.{Bool, true, false, _&&_, and-eq-true-iff}
 use lib.Dec.{leb, ltb}
 use Rattle.octets_spec.specs.Choice.{ifOn}
 use borrow.Author.Tests.{le-leb, lt-leb, leb-true, le-ltb, lt-ltb}
@@ -76,11 +76,6 @@ module _ (p : Place) where
         let l : 3 * p .attempts ≤ 11 * p .acked = omega arith in
         simp (c, u, le-leb 256 (p .rank) r, le-leb 1 (p .acked) a, le-leb (3 * p .attempts) (11 * p .acked) l)
 
--- what a conjunction says of its parts
-pub both : (a b : Bool) → a && b ≡ true → (a ≡ true) × (b ≡ true)
-both true b e = (refl, e)
-both false b e = (e, cc)
-
 -- ---- what eligibility says, for the crates above
 pub blank-not-eligible : eligible blank ≡ false
 unfolding eligible
@@ -90,10 +85,10 @@ module _ (p : Place) (e : eligible p ≡ true) where
   parts : (p .used ≡ true) × (256 ≤ p .rank) × (1 ≤ p .acked) × (pathCost p ≤ 65534)
   unfolding eligible
   parts =
-      let l₁ = both (p .used) (leb 256 (p .rank) && (leb 1 (p .acked) && (leb (3 * p .attempts) (11 * p .acked) && leb (pathCost p) 65534))) e in
-      let l₂ = both (leb 256 (p .rank)) (leb 1 (p .acked) && (leb (3 * p .attempts) (11 * p .acked) && leb (pathCost p) 65534)) (l₁ .1) in
-      let l₃ = both (leb 1 (p .acked)) (leb (3 * p .attempts) (11 * p .acked) && leb (pathCost p) 65534) (l₂ .1) in
-      let l₄ = both (leb (3 * p .attempts) (11 * p .acked)) (leb (pathCost p) 65534) (l₃ .1) in
+      let l₁ = and-eq-true-iff (p .used) (leb 256 (p .rank) && (leb 1 (p .acked) && (leb (3 * p .attempts) (11 * p .acked) && leb (pathCost p) 65534))) .0 e in
+      let l₂ = and-eq-true-iff (leb 256 (p .rank)) (leb 1 (p .acked) && (leb (3 * p .attempts) (11 * p .acked) && leb (pathCost p) 65534)) .0 (l₁ .1) in
+      let l₃ = and-eq-true-iff (leb 1 (p .acked)) (leb (3 * p .attempts) (11 * p .acked) && leb (pathCost p) 65534) .0 (l₂ .1) in
+      let l₄ = and-eq-true-iff (leb (3 * p .attempts) (11 * p .acked)) (leb (pathCost p) 65534) .0 (l₃ .1) in
       (l₁ .0, leb-true 256 (p .rank) (l₂ .0), leb-true 1 (p .acked) (l₃ .0), leb-true (pathCost p) 65534 (l₄ .1))
 
   pub eligible-used : p .used ≡ true

@@ -3,13 +3,12 @@
 use Prim.Native.Nat.{ℕ, _+_, _<_, _≤_}
 use native.Mathlib.Numerals.{add-one}
 use mathlib.Core.Path.{_≡_, sym, _∙_}
-use mathlib.Core.Bool.{Bool, true, false, not, _&&_, _||_}
+use mathlib.Core.Bool.{Bool, true, false, not, _&&_, _||_, and-eq-true-iff}
 use mathlib.Core.List.{List}
 use lib.ListN.{length, getD, drop, drop-of-length-le}
 use lib.Seq.{drop-cons}
 use lib.Dec.{eqb, ltb}
 use borrow.Author.Tests.{eqb-true, lt-ltb, le-ltb, ltb-false, not-false}
-use Rattle.nbr_metric_spec.proofs.MetricLaws.{both}
 use Rattle.nbr_table_spec.proofs.PlaceLaws.{neither}
 use Rattle.nbr_table_spec.specs.declared.Table.{Table}
 use Rattle.nbr_table_spec.specs.Calls.{broken}
@@ -46,8 +45,8 @@ pub run-ready : (t : Table) (ks ns vs fs : List ℕ) (x y : Bool) → y ≡ brok
 unfolding equallyLong
 run-ready t ks ns vs fs x y g h e u =
     let f = fits (log ks ns vs fs) x e u in
-    let b₁ = both (eqb (length ns) (length ks)) (eqb (length vs) (length ks) && eqb (length fs) (length ks)) (f .0) in
-    let b₂ = both (eqb (length vs) (length ks)) (eqb (length fs) (length ks)) (b₁ .1) in
+    let b₁ = and-eq-true-iff (eqb (length ns) (length ks)) (eqb (length vs) (length ks) && eqb (length fs) (length ks)) .0 (f .0) in
+    let b₂ = and-eq-true-iff (eqb (length vs) (length ks)) (eqb (length fs) (length ks)) .0 (b₁ .1) in
     (eqb-true (length ns) (length ks) (b₁ .0), eqb-true (length vs) (length ks) (b₂ .0), eqb-true (length fs) (length ks) (b₂ .1), f .1, sym g ∙ h)
 
 pub ruleset logWays = (over-next, over-found, over-end, unfit-is)

@@ -12,9 +12,10 @@ use lib.Seq.{set-out}
 use lib.Dec.{eqb}
 use borrow.Author.Tests.{ne-eqb, eqb-false, le-ltb, lt-ltb}
 use Rattle.octets_spec.specs.Choice.{ifEq, ifLt, ifOn}
-use Rattle.octets_spec.proofs.ChoiceLaws.{by-lt, choices}
+use Rattle.octets_spec.proofs.ChoiceLaws.{by-lt, choices, by-test}
+use Rattle.octets_spec.proofs.CountedLaws.{length-mapped}
 use Rattle.nbr_metric_spec.specs.declared.Place.{Place}
-use Rattle.nbr_table_spec.proofs.PlaceLaws.{clash, length-mapped, split}
+use Rattle.nbr_table_spec.proofs.PlaceLaws.{clash}
 use Rattle.nbr_table_spec.specs.declared.Parent.{Parent}
 use Rattle.nbr_table_spec.specs.declared.Table.{Table}
 use Rattle.nbr_table_spec.specs.Calls.{broken}
@@ -60,9 +61,9 @@ unfolding counted ifLt call ifEq
 tally-next t cs kind id value flag v h =
     by-lt kind 3
     (λ k. rw (lt-ltb kind 3 k)
-    (split (eqb kind 0) (λ a. rw a (tally-advertise t cs id value))
-    (λ a. split (eqb kind 1) (λ b. rw (a, b) (tally-report t cs id value (eqb flag 1)))
-    (λ b. split (eqb kind 2) (λ c. rw (a, b, c) (tally-forget t cs id))
+    (by-test (eqb kind 0) (λ a. rw a (tally-advertise t cs id value))
+    (λ a. by-test (eqb kind 1) (λ b. rw (a, b) (tally-report t cs id value (eqb flag 1)))
+    (λ b. by-test (eqb kind 2) (λ c. rw (a, b, c) (tally-forget t cs id))
     (λ c. absurd (let x = eqb-false kind 0 a in let y = eqb-false kind 1 b in let z = eqb-false kind 2 c in omega arith))))))
     (λ k.
     let a : eqb kind 0 ≡ false = ne-eqb kind 0 (λ z. omega arith) in
@@ -153,8 +154,8 @@ module _ (t : Table) (l : Log) where
     pub replay-is : (r ≡ refusedReplay 8 t) ⊎ ((broken t ≡ false) × (r ≡ outcome t (calls l)))
     unfolding replayed ifOn
     replay-is =
-        split (broken t) (λ b. inl (rw b at e))
-        (λ b. split (unfitLog l) (λ u. inl (rw (b, u) at e)) (λ u. inr (b, rw (b, u) at e)))
+        by-test (broken t) (λ b. inl (rw b at e))
+        (λ b. by-test (unfitLog l) (λ u. inl (rw (b, u) at e)) (λ u. inr (b, rw (b, u) at e)))
 
     pub replay-bound : r .applies ≡ true → 641 * r .changes + r .last ≤ r .first + r .rises
     replay-bound h =

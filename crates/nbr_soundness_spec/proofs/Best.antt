@@ -11,11 +11,12 @@ use lib.ListN.{length, getD}
 use lib.Dec.{ltb}
 use borrow.Author.Tests.{ltb-true, ltb-false}
 use Rattle.octets_spec.specs.Choice.{ifLt, ifOn}
+use Rattle.octets_spec.proofs.ChoiceLaws.{by-test}
 use Rattle.nbr_metric_spec.specs.declared.Place.{Place}
 use Rattle.nbr_metric_spec.specs.Metric.{blank, eligible, pathCost}
 use Rattle.nbr_metric_spec.proofs.MetricLaws.{blank-not-eligible}
 use Rattle.nbr_table_spec.specs.Places.{bestOf, better, lesser}
-use Rattle.nbr_table_spec.proofs.PlaceLaws.{clash, split}
+use Rattle.nbr_table_spec.proofs.PlaceLaws.{clash}
 use Rattle.nbr_soundness_spec.specs.Soundness.{NotAfter, BestComesFirst, BestIsAPlace}
 
 -- x stands in ps at some number
@@ -42,37 +43,37 @@ module _ (key : Place → ℕ) where
       lesser-is : (lesser key b p ≡ b) ⊎ (lesser key b p ≡ p)
       unfolding lesser ifLt
       lesser-is =
-          split (ltb (key p) (key b)) (λ e. rw e (inr refl))
-          (λ e. split (ltb (key b) (key p)) (λ f. rw (e, f) (inl refl))
-          (λ f. split (ltb (p .id) (b .id)) (λ g. rw (e, f, g) (inr refl)) (λ g. rw (e, f, g) (inl refl))))
+          by-test (ltb (key p) (key b)) (λ e. rw e (inr refl))
+          (λ e. by-test (ltb (key b) (key p)) (λ f. rw (e, f) (inl refl))
+          (λ f. by-test (ltb (p .id) (b .id)) (λ g. rw (e, f, g) (inr refl)) (λ g. rw (e, f, g) (inl refl))))
 
       lesser-first : NotAfter key (lesser key b p) b × NotAfter key (lesser key b p) p
       unfolding lesser ifLt
       lesser-first =
-          split (ltb (key p) (key b))
+          by-test (ltb (key p) (key b))
           (λ e. rw e (let h : key p < key b = ltb-true (key p) (key b) e in ((omega arith, λ z. absurd (omega arith)), not-after-self p)))
           (λ e. let h : key b ≤ key p = ltb-false (key p) (key b) e in
-          split (ltb (key b) (key p))
+          by-test (ltb (key b) (key p))
           (λ f. rw (e, f) (let k : key b < key p = ltb-true (key b) (key p) f in (not-after-self b, (omega arith, λ z. absurd (omega arith)))))
           (λ f. let k : key p ≤ key b = ltb-false (key b) (key p) f in
-          split (ltb (p .id) (b .id))
+          by-test (ltb (p .id) (b .id))
           (λ g. rw (e, f, g) (let l : p .id < b .id = ltb-true (p .id) (b .id) g in ((omega arith, λ z. omega arith), not-after-self p)))
           (λ g. rw (e, f, g) (let l : b .id ≤ p .id = ltb-false (p .id) (b .id) g in (not-after-self b, (omega arith, λ z. omega arith))))))
 
       better-is : (better test key b p ≡ b) ⊎ (better test key b p ≡ p)
       unfolding better ifOn
-      better-is = split (test p) (λ e. split (test b) (λ f. rw (e, f) lesser-is) (λ f. rw (e, f) (inr refl))) (λ e. rw e (inl refl))
+      better-is = by-test (test p) (λ e. by-test (test b) (λ f. rw (e, f) lesser-is) (λ f. rw (e, f) (inr refl))) (λ e. rw e (inl refl))
 
       lesser-passes : test b ≡ true → test p ≡ true → test (lesser key b p) ≡ true
       lesser-passes h k = ⊎-elim (λ e. rw e h) (λ e. rw e k) lesser-is
 
       better-old : test b ≡ true → (test (better test key b p) ≡ true) × NotAfter key (better test key b p) b
       unfolding better ifOn
-      better-old h = split (test p) (λ e. rw (e, h) (lesser-passes h e, lesser-first .0)) (λ e. rw e (h, not-after-self b))
+      better-old h = by-test (test p) (λ e. rw (e, h) (lesser-passes h e, lesser-first .0)) (λ e. rw e (h, not-after-self b))
 
       better-new : test p ≡ true → (test (better test key b p) ≡ true) × NotAfter key (better test key b p) p
       unfolding better ifOn
-      better-new h = split (test b) (λ e. rw (h, e) (lesser-passes e h, lesser-first .1)) (λ e. rw (h, e) (h, not-after-self p))
+      better-new h = by-test (test b) (λ e. rw (h, e) (lesser-passes e h, lesser-first .1)) (λ e. rw (h, e) (h, not-after-self p))
 
     -- the best of the places and b
     best-old : (b : Place) (ps : List Place) → test b ≡ true → (test (bestOf test key b ps) ≡ true) × NotAfter key (bestOf test key b ps) b

@@ -9,11 +9,12 @@ use lib.ListN.{getD}
 use lib.Dec.{ltb}
 use borrow.Author.Tests.{ltb-true}
 use Rattle.octets_spec.specs.Choice.{ifLt, ifOn}
+use Rattle.octets_spec.proofs.ChoiceLaws.{by-test}
 use Rattle.nbr_metric_spec.specs.declared.Place.{Place}
 use Rattle.nbr_metric_spec.specs.Metric.{blank, eligible, pathCost}
 use Rattle.nbr_metric_spec.proofs.MetricLaws.{blank-not-eligible, cost-above-rank, cost-from, cost-to, eligible-used}
 use Rattle.nbr_table_spec.specs.Places.{best, firstOf, named, unfit}
-use Rattle.nbr_table_spec.proofs.PlaceLaws.{clash, fit-limits, none-at, split}
+use Rattle.nbr_table_spec.proofs.PlaceLaws.{clash, fit-limits, none-at}
 use Rattle.nbr_table_spec.specs.declared.Parent.{Parent}
 use Rattle.nbr_table_spec.specs.declared.Parent.the-variants.{None, Held}
 use Rattle.nbr_table_spec.specs.declared.Table.{Table}
@@ -26,10 +27,10 @@ use Rattle.nbr_soundness_spec.proofs.Kept.{best-known, blank-fit, held-
 pub evaluate-keeps-places : EvaluateKeepsPlaces
 unfolding evaluated chosen ifOn ifLt
 evaluate-keeps-places t =
-    split (broken t) (λ h. rw h)
-    (λ h. split (eligible (best (t .places)))
-    (λ e. split (eligible (held t))
-    (λ f. split (ltb 640 (pathCost (held t) - pathCost (best (t .places)))) (λ g. rw (h, e, f, g)) (λ g. rw (h, e, f, g)))
+    by-test (broken t) (λ h. rw h)
+    (λ h. by-test (eligible (best (t .places)))
+    (λ e. by-test (eligible (held t))
+    (λ f. by-test (ltb 640 (pathCost (held t) - pathCost (best (t .places)))) (λ g. rw (h, e, f, g)) (λ g. rw (h, e, f, g)))
     (λ f. rw (h, e, f)))
     (λ e. rw (h, e)))
 
@@ -69,10 +70,10 @@ module _ (t : Table) (h : broken t ≡ false) where
 pub changes-gain-641 : ChangesGain641
 unfolding evaluated chosen ifOn ifLt
 changes-gain-641 t f =
-    split (broken t) (λ h. rw h (inl refl))
+    by-test (broken t) (λ h. rw h (inl refl))
     (λ h.
     let e = best-eligible t h f in
-    split (ltb 640 (pathCost (held t) - pathCost (best (t .places))))
+    by-test (ltb 640 (pathCost (held t) - pathCost (best (t .places))))
     (λ g. rw (h, e, f, g) (inr (taken-gain t h e (ltb-true 640 (pathCost (held t) - pathCost (best (t .places))) g)))) (λ g. rw (h, e, f, g) (inl refl)))
 
 -- ---- the held parent stays eligible, and costs at least 512
@@ -95,7 +96,7 @@ pub eligible-after : (t : Table) → broken t ≡ false → eligible (held t) �
 unfolding evaluated chosen ifOn ifLt
 eligible-after t h f =
     let e = best-eligible t h f in
-    split (ltb 640 (pathCost (held t) - pathCost (best (t .places)))) (λ g. rw (h, e, f, g) (rw (best-held t h e) e)) (λ g. rw (h, e, f, g) f)
+    by-test (ltb 640 (pathCost (held t) - pathCost (best (t .places)))) (λ g. rw (h, e, f, g) (rw (best-held t h e) e)) (λ g. rw (h, e, f, g) f)
 
 -- ---- the own rank
 -- u is the table and n the own rank after an evaluation that leaves a parent
@@ -117,8 +118,8 @@ taken-parented t h e =
 pub own-rank : OwnRank
 unfolding evaluated chosen ifOn ifLt
 own-rank t h =
-    split (eligible (best (t .places)))
-    (λ e. split (eligible (held t))
-    (λ f. split (ltb 640 (pathCost (held t) - pathCost (best (t .places)))) (λ g. rw (h, e, f, g) (inr (taken-parented t h e))) (λ g. rw (h, e, f, g) (inr (parented t h f))))
+    by-test (eligible (best (t .places)))
+    (λ e. by-test (eligible (held t))
+    (λ f. by-test (ltb 640 (pathCost (held t) - pathCost (best (t .places)))) (λ g. rw (h, e, f, g) (inr (taken-parented t h e))) (λ g. rw (h, e, f, g) (inr (parented t h f))))
     (λ f. rw (h, e, f) (inr (taken-parented t h e))))
     (λ e. rw (h, e) (inl (refl, refl)))

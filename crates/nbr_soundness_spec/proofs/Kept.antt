@@ -7,11 +7,12 @@ use mathlib.Core.List.{List, [], _∷_}
 use lib.Dec.{ltb, eqb}
 use borrow.Author.Tests.{eqb-false, le-ltb, ltb-false, not-false}
 use Rattle.octets_spec.specs.Choice.{ifEq, ifLt, ifOn}
+use Rattle.octets_spec.proofs.ChoiceLaws.{by-test}
 use Rattle.nbr_metric_spec.specs.declared.Place.{Place}
 use Rattle.nbr_metric_spec.specs.Metric.{blank, eligible, pathCost}
 use Rattle.nbr_metric_spec.proofs.MetricLaws.{eligible-used}
 use Rattle.nbr_table_spec.specs.Places.{best, changeFirst, free, known, named, nonzero, somePlace, twice, unfit}
-use Rattle.nbr_table_spec.proofs.PlaceLaws.{clash, fit-limits, neither, split}
+use Rattle.nbr_table_spec.proofs.PlaceLaws.{clash, fit-limits, neither}
 use Rattle.nbr_table_spec.specs.declared.Parent.{Parent}
 use Rattle.nbr_table_spec.specs.declared.Parent.the-variants.{None, Held}
 use Rattle.nbr_table_spec.specs.declared.Table.{Table}
@@ -71,17 +72,13 @@ module _ (n : ℕ) (p : Place) (e : named n p ≡ true) (h : unfit p ≡ false) 
       let u = named-says n p e .0 in
       let l = fit-limits p h in
       let one = one-at-most ok in
-      split (ltb 255 (p .attempts + k))
+      by-test (ltb 255 (p .attempts + k))
       (λ s. rw s (fit-used (withCounters (p .attempts / 2 + k) (p .acked / 2 + cond ok 1 0) p) u (omega arith) (omega arith)))
       (λ s. rw s (let m = ltb-false 255 (p .attempts + k) s in fit-used (withCounters (p .attempts + k) (p .acked + cond ok 1 0) p) u (omega arith) (omega arith)))
 
-attempted-used : (k : ℕ) (ok : Bool) (p : Place) → attempted k ok p .used ≡ p .used
+attempted-same : (k : ℕ) (ok : Bool) (p : Place) → (attempted k ok p .used ≡ p .used) × (attempted k ok p .id ≡ p .id)
 unfolding attempted ifLt
-attempted-used k ok p = split (ltb 255 (p .attempts + k)) (λ s. rw s) (λ s. rw s)
-
-attempted-id : (k : ℕ) (ok : Bool) (p : Place) → attempted k ok p .id ≡ p .id
-unfolding attempted ifLt
-attempted-id k ok p = split (ltb 255 (p .attempts + k)) (λ s. rw s) (λ s. rw s)
+attempted-same k ok p = by-test (ltb 255 (p .attempts + k)) (λ s. rw s (refl, refl)) (λ s. rw s (refl, refl))
 
 pub blank-fit : unfit blank ≡ false
 unfolding unfit free nonzero
@@ -121,17 +118,17 @@ module _ (t : Table) (h : broken t ≡ false) where
   pub advertised-sound : (n rank : ℕ) → broken (advertised t n rank .table) ≡ false
   unfolding advertised ifOn
   advertised-sound n rank =
-      split (known n (t .places))
+      by-test (known n (t .places))
       (λ e. rw (h, e) (changed-sound n (withRank rank) (λ p u f. rank-fit n p u f rank) (λ p. refl) (λ p. refl)))
-      (λ e. split (somePlace free (t .places)) (λ f. rw (h, e, f) (added-sound n rank e)) (λ f. rw (h, e, f) h))
+      (λ e. by-test (somePlace free (t .places)) (λ f. rw (h, e, f) (added-sound n rank e)) (λ f. rw (h, e, f) h))
 
   pub reported-sound : (n k : ℕ) (ok : Bool) → broken (reported t n k ok .table) ≡ false
   unfolding reported ifOn ifLt
   reported-sound n k ok =
-      split (ltb k 1) (λ a. rw (h, a) h)
-      (λ a. split (ltb 4 k) (λ b. rw (h, a, b) h)
-      (λ b. split (known n (t .places))
-      (λ e. rw (h, a, b, e) (changed-sound n (attempted k ok) (λ p u f. attempted-fit n p u f k ok (ltb-false k 1 a) (ltb-false 4 k b)) (attempted-used k ok) (attempted-id k ok)))
+      by-test (ltb k 1) (λ a. rw (h, a) h)
+      (λ a. by-test (ltb 4 k) (λ b. rw (h, a, b) h)
+      (λ b. by-test (known n (t .places))
+      (λ e. rw (h, a, b, e) (changed-sound n (attempted k ok) (λ p u f. attempted-fit n p u f k ok (ltb-false k 1 a) (ltb-false 4 k b)) (λ p. attempted-same k ok p .0) (λ p. attempted-same k ok p .1)))
       (λ e. rw (h, a, b, e) h)))
 
   -- the held parent once neighbour n is removed
@@ -139,7 +136,7 @@ module _ (t : Table) (h : broken t ≡ false) where
   unfolding without parentMissing ifEq
   left-there n None a = refl
   left-there n (Held m) a =
-      split (eqb m n) (λ e. rw e)
+      by-test (eqb m n) (λ e. rw e)
       (λ e. rw e
       (there-known m (changeFirst (named n) (λ p. blank) (t .places))
       (known-kept (named n) (λ p. blank) m
@@ -161,7 +158,7 @@ module _ (t : Table) (h : broken t ≡ false) where
 
   pub forgotten-sound : (n : ℕ) → broken (forgotten t n .table) ≡ false
   unfolding forgotten ifOn
-  forgotten-sound n = split (known n (t .places)) (λ e. rw (h, e) (removed-sound n)) (λ e. rw (h, e) h)
+  forgotten-sound n = by-test (known n (t .places)) (λ e. rw (h, e) (removed-sound n)) (λ e. rw (h, e) h)
 
   -- any parent that is known, and none, may be held
   pub held-sound : (m : ℕ) → known m (t .places) ≡ true → broken (withParent t (Held m)) ≡ false
@@ -181,11 +178,11 @@ module _ (t : Table) (h : broken t ≡ false) where
   pub evaluated-sound : broken (evaluated t .table) ≡ false
   unfolding evaluated chosen ifOn ifLt
   evaluated-sound =
-      split (eligible (best (t .places)))
+      by-test (eligible (best (t .places)))
       (λ e.
       let m = held-sound (best (t .places) .id) (best-known e) in
-      split (eligible (held t))
-      (λ f. split (ltb 640 (pathCost (held t) - pathCost (best (t .places)))) (λ g. rw (h, e, f, g) m) (λ g. rw (h, e, f, g) h))
+      by-test (eligible (held t))
+      (λ f. by-test (ltb 640 (pathCost (held t) - pathCost (best (t .places)))) (λ g. rw (h, e, f, g) m) (λ g. rw (h, e, f, g) h))
       (λ f. rw (h, e, f) m))
       (λ e. rw (h, e) none-sound)
 
@@ -196,11 +193,11 @@ calls-keep-tables t h = (advertised-sound t h, reported-sound t h, forgotten-sou
 freed : (n : ℕ) (ps : List Place) → known n ps ≡ true → somePlace free (changeFirst (named n) (λ p. blank) ps) ≡ true
 unfolding somePlace changeFirst free
 freed n [] h = h
-freed n (p ∷ ps) h = split (named n p) (λ e. rw e) (λ e. rw e (rw (freed n ps (rw e at h)) (or-true (free p))))
+freed n (p ∷ ps) h = by-test (named n p) (λ e. rw e) (λ e. rw e (rw (freed n ps (rw e at h)) (or-true (free p))))
 
 accepted : (t : Table) → broken t ≡ false → somePlace free (t .places) ≡ true → (m rank : ℕ) → advertised t m rank .number ≡ 0
 unfolding advertised ifOn
-accepted t h f m rank = split (known m (t .places)) (λ e. rw (h, e)) (λ e. rw (h, e, f))
+accepted t h f m rank = by-test (known m (t .places)) (λ e. rw (h, e)) (λ e. rw (h, e, f))
 
 pub forget-makes-room : ForgetMakesRoom
 forget-makes-room t n m rank h k = rw (forgotten-is t h n k) (accepted (removed t n) (removed-sound t h n) (freed n (t .places) k) m rank)

@@ -3,13 +3,13 @@
 use Prim.Native.Nat.{ℕ, _+_, _*_, _-_, _≤_}
 use native.Mathlib.Omega.{arith}
 use mathlib.Core.Path.{_≡_, refl, sym, subst}
-use mathlib.Core.Bool.{Bool, true, false, cond, not, _&&_}
+use mathlib.Core.Bool.{Bool, true, false, cond, not, _&&_, and-eq-true-iff}
 use mathlib.Core.List.{List, [], _∷_}
 use mathlib.Core.Logic.{⊎-elim}
 use borrow.Author.Tests.{eq-eqb, not-true}
 use Rattle.octets_spec.specs.Choice.{ifOn}
 use Rattle.nbr_metric_spec.specs.Metric.{eligible, pathCost}
-use Rattle.nbr_metric_spec.proofs.MetricLaws.{both, cost-to}
+use Rattle.nbr_metric_spec.proofs.MetricLaws.{cost-to}
 use Rattle.nbr_table_spec.proofs.PlaceLaws.{clash}
 use Rattle.nbr_table_spec.specs.declared.Parent.{Parent}
 use Rattle.nbr_table_spec.specs.declared.Parent.the-variants.{None, Held}
@@ -68,7 +68,7 @@ all-fall t (Advertise n rank ∷ cs) b h = all-fall (after t (Advertise n rank))
 all-fall t (Report n k ok ∷ cs) b h = all-fall (after t (Report n k ok)) cs (kept t (Report n k ok) b) h
 all-fall t (Forget n ∷ cs) b h = all-fall (after t (Forget n)) cs (kept t (Forget n) b) h
 all-fall t (Evaluate ∷ cs) b h =
-    let k = both (eligible (held t)) (eachEligible (evaluations (after t Evaluate) cs)) h in
+    let k = and-eq-true-iff (eligible (held t)) (eachEligible (evaluations (after t Evaluate) cs)) .0 h in
     let b′ = kept t Evaluate b in
     let e = eligible-after t b (k .0) in
     let hi : heldCost t ≤ 65534 = omega (arith, held-cost t (k .0), cost-to (held t) (k .0)) in
@@ -97,8 +97,8 @@ module _ (t : Table) (cs : List Call) (h : applies t cs ≡ true) where
   parts : (broken t ≡ false) × (someEvaluation (evaluations t cs) ≡ true) × (eachEligible (evaluations t cs) ≡ true)
   unfolding applies
   parts =
-      let k = both (not (broken t)) (someEvaluation (evaluations t cs) && eachEligible (evaluations t cs)) h in
-      let l = both (someEvaluation (evaluations t cs)) (eachEligible (evaluations t cs)) (k .1) in
+      let k = and-eq-true-iff (not (broken t)) (someEvaluation (evaluations t cs) && eachEligible (evaluations t cs)) .0 h in
+      let l = and-eq-true-iff (someEvaluation (evaluations t cs)) (eachEligible (evaluations t cs)) .0 (k .1) in
       (not-true (broken t) (k .0), l .0, l .1)
 
   fallen : AllFall (evaluations t cs)

@@ -5,8 +5,8 @@ use native.Mathlib.Numerals.{add-one}
 use native.Mathlib.Omega.{arith}
 use mathlib.Core.Path.{_≡_, refl, sym, ap, subst, _∙_}
 use mathlib.Core.Bool.{Bool, true, false, cond, not, _&&_, _||_}
-use mathlib.Core.List.{List, [], _∷_, map}
-use lib.ListN.{length, getD, drop, set, length-map, drop-of-length-le}
+use mathlib.Core.List.{List, [], _∷_}
+use lib.ListN.{length, getD, drop, set, drop-of-length-le}
 use lib.Seq.{drop-cons}
 use lib.Dec.{ltb, eqb}
 use borrow.Author.Tests.{ltb-false}
@@ -17,10 +17,6 @@ use Rattle.nbr_metric_spec.specs.Metric.{blank}
 use Rattle.nbr_table_spec.specs.Places.{better, changeFirst, firstOf, free, named, lesser, nonzero, somePlace, unfit}
 use Rattle.nbr_table_spec.specs.declared.Found.{Found}
 use Rattle.nbr_table_spec.specs.Stores.{first, found}
-
--- an array of structs that is a field has its length
-pub length-mapped : {X Y : Type 0} (f : X → Y) (l : List X) (n : ℕ) → length (map f l) ≡ n → length l ≡ n
-length-mapped f l n e = sym (length-map l f) ∙ e
 
 -- ---- one place
 module _ (p : Place) where
@@ -119,11 +115,6 @@ pub neither : (a b : Bool) → a || b ≡ false → (a ≡ false) × (b ≡ fals
 neither true b e = (e, cc)
 neither false b e = (refl, e)
 
--- case split that keeps the equation
-pub split : {A : Type 0} (a : Bool) → (a ≡ true → A) → (a ≡ false → A) → A
-split true f g = f refl
-split false f g = g refl
-
 -- a test does not both hold and fail
 pub clash : {A : Type 0} (a : Bool) → a ≡ true → a ≡ false → A
 clash a e f = absurd (let z : _≡_ {A = ℕ} 0 1 = cc in omega arith)
@@ -133,24 +124,24 @@ module _ (f : Place → Bool) where
   pub present : (ps : List Place) → first f ps < length ps → somePlace f ps ≡ true
   unfolding first somePlace
   present [] h = absurd (omega arith)
-  present (p ∷ ps) h = split (f p) (λ e. rw e) (λ e. rw e (present ps (let k : suc (first f ps) < suc (length ps) = rw e at h in omega arith)))
+  present (p ∷ ps) h = by-test (f p) (λ e. rw e) (λ e. rw e (present ps (let k : suc (first f ps) < suc (length ps) = rw e at h in omega arith)))
 
   pub missing : (ps : List Place) → length ps ≤ first f ps → somePlace f ps ≡ false
   unfolding first somePlace
   missing [] h = refl
   missing (p ∷ ps) h =
-      split (f p) (λ e. let k : suc (length ps) ≤ 0 = rw e at h in absurd (omega arith))
+      by-test (f p) (λ e. let k : suc (length ps) ≤ 0 = rw e at h in absurd (omega arith))
       (λ e. rw e (missing ps (let k : suc (length ps) ≤ suc (first f ps) = rw e at h in omega arith)))
 
   pub first-at : (ps : List Place) → getD ps (first f ps) blank ≡ firstOf f ps
   unfolding first firstOf
   first-at [] = refl
-  first-at (p ∷ ps) = split (f p) (λ e. rw e) (λ e. rw e (first-at ps))
+  first-at (p ∷ ps) = by-test (f p) (λ e. rw e) (λ e. rw e (first-at ps))
 
   pub set-first : (g : Place → Place) (ps : List Place) → set ps (first f ps) (g (getD ps (first f ps) blank)) ≡ changeFirst f g ps
   unfolding first changeFirst
   set-first g [] = refl
-  set-first g (p ∷ ps) = split (f p) (λ e. rw e) (λ e. rw e (ap (λ (l : List Place). p ∷ l) (set-first g ps)))
+  set-first g (p ∷ ps) = by-test (f p) (λ e. rw e) (λ e. rw e (ap (λ (l : List Place). p ∷ l) (set-first g ps)))
 
 -- where no place meets a test, none does at any number
 pub none-at : (f : Place → Bool) (ps : List Place) (i : ℕ) → f blank ≡ false → somePlace f ps ≡ false → f (getD ps i blank) ≡ false

@@ -11,6 +11,7 @@ use lib.Dec.{eqb}
 use borrow.Author.Tests.{eqb-true, le-ltb, lt-ltb, not-false}
 use Rattle.octets_spec.specs.Choice.{ifEq, ifLt, ifOn}
 use Rattle.octets_spec.proofs.ChoiceLaws.{by-lt, by-test, choices}
+use Rattle.octets_spec.proofs.CountedLaws.{length-mapped}
 use Rattle.nbr_metric_spec.specs.declared.Place.{Place}
 use Rattle.nbr_metric_spec.specs.Metric.{blank}
 use Rattle.nbr_table_spec.specs.declared.Answer.{Answer}
@@ -23,7 +24,7 @@ use Rattle.nbr_table_spec.specs.Places.{changeFirst, free, known, named,
 use Rattle.nbr_table_spec.specs.Changes.{attempted, newcomer, withRank}
 use Rattle.nbr_table_spec.specs.Calls.{advertised, answer, broken, forgotten, parentMissing, reported, without}
 use Rattle.nbr_table_spec.specs.Stores.{advertising, change, first, forgetting, found, freeIndex, indexOf, refusing, reporting, stored}
-use Rattle.nbr_table_spec.proofs.PlaceLaws.{clash, length-mapped, missing, neither, none-at, present, set-first}
+use Rattle.nbr_table_spec.proofs.PlaceLaws.{clash, missing, neither, none-at, present, set-first}
 use Rattle.nbr_table_spec.proofs.CallLaws.{attempted-halved, attempted-plain, fit-attempts, fit-acked, newcomer-is, without-none, without-other, without-same}
 
 pub refusing-is : (number : ℕ) (b : Place) → b ≡ blank → change number 32 b ≡ refusing number

@@ -41,6 +41,9 @@ by-test false on off = off refl
 pub by-lt : {X : Type 0} (a b : ℕ) → (a < b → X) → (b ≤ a → X) → X
 by-lt a b below above = by-test (ltb a b) (λ t. below (ltb-true a b t)) (λ t. above (ltb-false a b t))
 
+pub by-eq : {X : Type 0} (a b : ℕ) → (a ≡ b → X) → ((a ≡ b → ⊥) → X) → X
+by-eq a b same other = by-test (eqb a b) (λ t. same (eqb-true a b t)) (λ t. other (eqb-false a b t))
+
 module _ {A : Type 0} (x y r : A) where
   pub was-lt : (a b : ℕ) → ifLt a b x y ≡ r → (y ≡ r → ⊥) → (a < b) × (x ≡ r)
   unfolding ifLt

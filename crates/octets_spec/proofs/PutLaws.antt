@@ -2,23 +2,15 @@
 -- Each is stated once over the width. Assumes nothing.
 use Prim.Native.Nat.{ℕ, zero, suc, _+_, _-_, _*_, _/_, _%_, _^_, _<_, _≤_}
 use mathlib.Core.Path.{_≡_, refl, sym, _∙_, ap}
-use mathlib.Core.List.{List, [], _∷_}
-use native.Mathlib.Nat.{pow-suc, pow-succ', one-le-pow, mul-assoc, mul-add, mul-suc, mul-le-mul-left, add-zero, sub-zero, div-add-mod, div-one, div-div-eq-div-mul, mod-lt, mod-one, mod-eq-of-lt, mul-add-mod-self-left}
+use mathlib.Core.List.{List, [], _∷_, _++_}
+use native.Mathlib.Nat.{pow-suc, pow-succ', one-le-pow, add-zero, sub-zero, div-one, div-div-eq-div-mul, mod-one, mul-comm}
 use native.Mathlib.Numerals.{add-one}
 use native.Mathlib.Omega.{arith}
 use lib.Dec.{lit<, lit≤}
 use lib.ListN.{length, getD, set, drop, length-set}
 use lib.Seq.{sets, drop-cons, set-out, set-comm, getD-set-same, getD-set-other}
+use lib.Arith.{mod-mul}
 use Rattle.octets_spec.specs.Number.{leAt, beAt, leBytes, beBytes, stored, ReadsBack, ReadsBackInABuffer}
-
--- ---- a number's remainder by a product, part by part
-mod-mul : (a b n : ℕ) → 0 < a → 0 < b → n % (a * b) ≡ n % a + a * (n / a % b)
-mod-mul a b n pa pb =
-    let q : ℕ = n / a in
-    let r : ℕ = a * (q % b) + n % a in
-    let whole : n ≡ a * b * (q / b) + r = omega (arith, div-add-mod n a, ap (λ (k : ℕ). a * k) (div-add-mod q b), mul-add a (b * (q / b)) (q % b), mul-assoc a b (q / b)) in
-    let small : r < a * b = omega (arith, mod-lt n pa, mul-le-mul-left a (mod-lt q pb), mul-suc a (q % b)) in
-    ap (λ (k : ℕ). k % (a * b)) whole ∙ (mul-add-mod-self-left (a * b) (q / b) r ∙ (mod-eq-of-lt small ∙ omega arith))
 
 -- ---- a run of stores leaves what stands before it, and does nothing past the end
 before-sets : (s xs : List ℕ) (i j : ℕ) → i < j → getD (sets s j xs) i 0 ≡ getD s i 0
@@ -33,6 +25,11 @@ sets-out : (s xs : List ℕ) (at : ℕ) → length s ≤ at → s ≡ sets s at 
 sets-out s [] at past = refl
 sets-out s (x ∷ xs) at past = rw (set-out s at x past) (sets-out s xs (suc at) (omega arith))
 
+-- parts in a row are one part
+pub sets-append : (s xs ys : List ℕ) (at : ℕ) → sets s at (xs ++ ys) ≡ sets (sets s at xs) (at + length xs) ys
+sets-append s [] ys at = rw (add-zero at)
+sets-append s (x ∷ xs) ys at = let offset : at + suc (length xs) ≡ suc at + length xs = omega arith in rw offset (sets-append (set s at x) xs ys (suc at))
+
 pub stored-out : (s xs : List ℕ) (at : ℕ) → length s ≤ at → s ≡ stored s at xs
 unfolding stored
 stored-out = sets-out
@@ -43,8 +40,8 @@ unfolding leAt leBytes stored
 le-back zero n at buffer fits = sym (mod-one n)
 le-back (suc width) n at buffer fits =
     let next : suc at + width ≤ length (set buffer at (n % 256)) = omega (arith, length-set buffer at (n % 256)) in
-    rw (add-one at, before-sets (set buffer at (n % 256)) (leBytes width (n / 256)) at (suc at) (omega arith), getD-set-same buffer at (n % 256) 0 (omega arith), le-back width (n / 256) (suc at) (set buffer at (n % 256)) next, pow-succ' 256 width)
-    (sym (mod-mul 256 (256 ^ width) n (lit< tt) (one-le-pow width 256 (lit< tt))))
+    rw (add-one at, before-sets (set buffer at (n % 256)) (leBytes width (n / 256)) at (suc at) (omega arith), getD-set-same buffer at (n % 256) 0 (omega arith), le-back width (n / 256) (suc at) (set buffer at (n % 256)) next, pow-suc 256 width)
+    (omega (arith, mod-mul n {m = 256 ^ width} {c = 256} (one-le-pow width 256 (lit< tt)) (lit< tt)))
 
 pub be-back : ReadsBack beBytes beAt
 unfolding beAt beBytes stored
@@ -52,8 +49,8 @@ be-back zero n at buffer fits = sym (mod-one n)
 be-back (suc width) n at buffer fits =
     let first : ℕ = n / 256 ^ width % 256 in
     let next : suc at + width ≤ length (set buffer at first) = omega (arith, length-set buffer at first) in
-    rw (add-one at, before-sets (set buffer at first) (beBytes width n) at (suc at) (omega arith), getD-set-same buffer at first 0 (omega arith), be-back width n (suc at) (set buffer at first) next, pow-suc 256 width)
-    (omega (arith, mod-mul (256 ^ width) 256 n (one-le-pow width 256 (lit< tt)) (lit< tt)))
+    rw (add-one at, before-sets (set buffer at first) (beBytes width n) at (suc at) (omega arith), getD-set-same buffer at first 0 (omega arith), be-back width n (suc at) (set buffer at first) next, pow-succ' 256 width)
+    (omega (arith, mod-mul n {m = 256} {c = 256 ^ width} (lit< tt) (one-le-pow width 256 (lit< tt)), mul-comm (256 ^ width) (n / 256 ^ width % 256)))
 
 -- ---- the loops: what is still to be put gives what the whole gives
 module _ (buffer : List ℕ) (at width : ℕ) where

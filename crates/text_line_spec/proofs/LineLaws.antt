@@ -1,14 +1,14 @@
 -- The laws of the line's parts, in the shape in which the code meets them: a part that has room, parts in a row, and the whole line. Assumes
 -- nothing.
-use Prim.Native.Nat.{ℕ, suc, _+_, _<_, _≤_}
+use Prim.Native.Nat.{ℕ, _+_, _<_, _≤_}
 use mathlib.Core.Path.{_≡_, refl, sym, _∙_, ap}
-use mathlib.Core.List.{List, [], _∷_, _++_}
-use native.Mathlib.Nat.{add-zero}
+use mathlib.Core.List.{List, [], _++_}
 use native.Mathlib.Omega.{arith}
-use lib.ListN.{length, set, length-append}
+use lib.ListN.{length, length-append}
 use lib.Seq.{sets, sets-eq, length-sets, length-take-le}
 use Rattle.octets_spec.specs.Number.{stored}
 use Rattle.octets_spec.proofs.ChoiceLaws.{if-lt, if-ge, if-eq, if-ne}
+use Rattle.octets_spec.proofs.PutLaws.{sets-append}
 use Rattle.eb_record_spec.specs.declared.Beacon.{Beacon}
 use Rattle.eb_read_spec.specs.declared.ReadAnswer.{ReadAnswer}
 use Rattle.eb_read_spec.specs.Read.{readFrame}
@@ -35,10 +35,6 @@ module _ (s t : List ℕ) (at r n : ℕ) (wide : at + 20 ≤ length s) (small : 
 pub ruleset parts = (text-part, decimal-put, decimal-most)
 
 -- ---- parts in a row
-sets-append : (s xs ys : List ℕ) (at : ℕ) → sets s at (xs ++ ys) ≡ sets (sets s at xs) (at + length xs) ys
-sets-append s [] ys at = rw (add-zero at)
-sets-append s (x ∷ xs) ys at = let offset : at + suc (length xs) ≡ suc at + length xs = omega arith in rw offset (sets-append (set s at x) xs ys (suc at))
-
 module _ (s xs t : List ℕ) (at a : ℕ) (first : PartPut s at xs t a) where
   row : (ys u : List ℕ) (b : ℕ) → PartPut t a ys u b → PartPut s at (xs ++ ys) u b
   unfolding stored

@@ -1,6 +1,6 @@
 -- Every value holds: a test that the checker computes over the whole list, and one law that turns the test into the claim.
 -- Assumes nothing.
-use mathlib.Core.Bool.{Bool, true, false, _&&_}
+use mathlib.Core.Bool.{Bool, true, _&&_}
 use mathlib.Core.List.{List, [], _∷_}
 use lib.Dec.{T, eqb, eqb→eq}
 use Rattle.octets_spec.specs.Choice.{ifOn, ifLt, ifEq}
@@ -11,22 +11,15 @@ use Rattle.nbr_table_spec.specs.Places.{free, named, somePlace, firstOf, change
 use Rattle.nbr_table_spec.specs.Changes.{attempted}
 use Rattle.nbr_table_spec.specs.Calls.{parentMissing, broken, heldPlace, markOf, idOf, chosen, reported, evaluated}
 use Rattle.values_spec.specs.Values.{Worked, workedValues, AllHold, Values}
+use mir.Facts.{and-yes}
 
 abbrev test : List Worked → Bool
 test [] = true
 test (r ∷ rs) = eqb (r .is) (r .wants) && test rs
 
-left : (a b : Bool) → T (a && b) → T a
-left true b t = tt
-left false b t = t
-
-right : (a b : Bool) → T (a && b) → T b
-right true b t = t
-right false b t = absurd t
-
 hold : (rs : List Worked) → T (test rs) → AllHold rs
 hold [] t = tt
-hold (r ∷ rs) t = (eqb→eq (r .is) (r .wants) (left (eqb (r .is) (r .wants)) (test rs) t), hold rs (right (eqb (r .is) (r .wants)) (test rs) t))
+hold (r ∷ rs) t = let both = and-yes (eqb (r .is) (r .wants)) (test rs) t in (eqb→eq (r .is) (r .wants) (both .0), hold rs (both .1))
 
 pub values-hold : Values
 unfolding ifOn ifLt ifEq channelOf increment pathCost eligible joinMetric free named somePlace firstOf changeFirst nonzero unfit twice lesser better bestOf attempted parentMissing broken heldPlace markOf idOf chosen reported evaluated

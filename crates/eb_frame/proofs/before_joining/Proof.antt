@@ -1,9 +1,9 @@
 -- `eb_frame::before_joining` meets its contract. Assumes nothing.
 use Rattle.eb_frame.proofs.FramingLaws.{before-is}
-use Rattle.eb_write_spec.proofs.RangeLaws.{length-mapped}
 use borrow.Author.Needs.{needs}
 use Rattle.eb_frame.proofs.before_joining.Statement.{statement}
 use Rattle.eb_frame.proofs.before_joining.Tie as tie
+use Rattle.octets_spec.proofs.CountedLaws.{length-mapped}
 
 at-most-16-requires : tie.Need-at-most-16-requires
 at-most-16-requires c κs = search needs

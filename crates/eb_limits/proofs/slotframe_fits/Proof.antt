@@ -1,9 +1,9 @@
 -- `eb_limits::slotframe_fits` meets its contract. Assumes nothing.
 use Rattle.eb_limits.proofs.LimitLaws.{slotframe-is}
-use Rattle.eb_write_spec.proofs.RangeLaws.{length-mapped}
 use borrow.Author.Needs.{needs}
 use Rattle.eb_limits.proofs.slotframe_fits.Statement.{statement}
 use Rattle.eb_limits.proofs.slotframe_fits.Tie as tie
+use Rattle.octets_spec.proofs.CountedLaws.{length-mapped}
 
 at-most-16-requires : tie.Need-at-most-16-requires
 at-most-16-requires c κs = search needs

@@ -1,9 +1,8 @@
 -- Each theorem that `eb_round_trip_spec::theorems` cites is proved. Assumes nothing.
 use Rattle.eb_round_trip_spec.proofs.FrameLengths.{length-is-the-formula, lengths-from-38-to-177}
 use Rattle.eb_round_trip_spec.proofs.ReadsBack.{written-is-of-the-grammar, frames-read-back, frames-differ}
-use Rattle.eb_round_trip_spec.proofs.Shortest.{lengths-are-met, full-record-is-writable}
+use Rattle.eb_round_trip_spec.proofs.Shortest.{lengths-are-met, full-record-is-writable, shortest-is-written-back}
 use Rattle.eb_round_trip_spec.proofs.NotLonger.{accepted-fits, written-is-not-longer, written-is-short}
-use Rattle.eb_round_trip_spec.proofs.Witness.{shortest-is-written-back}
 use Rattle.eb_round_trip_spec.proofs.FormsWritten.{accepted-reads-back, forms-read-back, read-forms-are-written, shortest-form-is-written}
 use Rattle.eb_round_trip_spec.proofs.theorems.Statement.{statement}
 use Rattle.eb_round_trip_spec.proofs.theorems.Tie as tie

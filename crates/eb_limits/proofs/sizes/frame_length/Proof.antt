@@ -1,9 +1,9 @@
 -- `eb_limits::sizes::frame_length` meets its contract. Assumes nothing.
 use Rattle.eb_limits.proofs.SizeLaws.{length-says}
-use Rattle.eb_write_spec.proofs.RangeLaws.{length-mapped}
 use borrow.Author.Needs.{needs}
 use Rattle.eb_limits.proofs.sizes.frame_length.Statement.{statement}
 use Rattle.eb_limits.proofs.sizes.frame_length.Tie as tie
+use Rattle.octets_spec.proofs.CountedLaws.{length-mapped}
 
 sequence-size-requires : tie.Need-sequence-size-requires
 sequence-size-requires c κs = search needs
