@@ -4,6 +4,11 @@ use libc::STDERR_FILENO;
 use libc::STDIN_FILENO;
 use libc::STDOUT_FILENO;
 
+// One byte more than the longest frame is read, so that a longer input is refused for its length.
+const MOST_READ: usize = 126;
+// A buffer in which every line has room.
+const LINE: usize = 128;
+
 // Tells what failed, with the system's reason for it.
 fn fail(what: &[u8]) {
     io::write_all(STDERR_FILENO, b"bench: ");
@@ -46,17 +51,16 @@ fn read_frame(fd: i32, frame: &mut [u8]) -> isize {
     length as isize
 }
 
-// Prints the line of the frame that a descriptor gives. One byte more than the longest frame is read, so that a longer input is
-// refused for its length.
+// Prints the line of the frame that a descriptor gives.
 fn answer(fd: i32, name: &[u8]) {
-    let mut frame = [0u8; 126];
+    let mut frame = [0u8; MOST_READ];
     let got = read_frame(fd, &mut frame);
     if got < 0 {
         fail(name);
         return;
     }
     let length = io::count(got, &frame);
-    let mut buffer = [0u8; 128];
+    let mut buffer = [0u8; LINE];
     let end = text_line::bench_line(&frame[..length], &mut buffer);
     // What a disk tells only when a file is closed is a failed write too.
     if !io::write_all(STDOUT_FILENO, &buffer[..end]) || libc::close(STDOUT_FILENO) < 0 {
