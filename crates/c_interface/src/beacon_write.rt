@@ -3,6 +3,8 @@ ghost use mathlib.Core.Path.{_≡_};
 ghost use lib.ListN.{length};
 ghost use Rattle.eb_write_spec.specs.Claims.{FormNumbers};
 ghost use Rattle.eb_write_spec.specs.Form.{formWritten, bufferAfterForm};
+ghost use Rattle.eb_record_spec.specs.Form.{beaconOf};
+ghost use Rattle.eb_round_trip_spec.specs.ReadBack.{WrittenAsSaid};
 use eb_record_spec::BeaconForm;
 use eb_write_spec::Written;
 
@@ -13,6 +15,7 @@ pub extern "C" fn tesolvagna_beacon_write(buffer: &mut [u8], beacon: BeaconForm)
     ensures answer { λ r. ⌜ r ≡ formWritten beacon (length (now (buffer .entry))) ⌝ }
     ensures buffer { λ _. ⌜ now (buffer .exit) ≡ bufferAfterForm beacon (now (buffer .entry)) ⌝ }
     ensures numbers { λ _. ⌜ FormNumbers ⌝ }
+    ensures as_said { λ r. ⌜ WrittenAsSaid (r .number) (r .length) (now (buffer .exit)) (beaconOf beacon) ⌝ }
 {
     if !eb_record::is_beacon(beacon) {
         return Written {

@@ -1,16 +1,10 @@
 // Writing a record and reading back what was written: every record that can be written comes back as itself.
 ghost use mathlib.Core.Path.{_≡_};
 ghost use lib.ListN.{length};
-ghost use Rattle.eb_round_trip_spec.specs.ReadBack.{Sized};
 ghost use Rattle.eb_write_spec.specs.Write.{bufferAfter};
 ghost use Rattle.eb_round_trip_spec.specs.RoundTrip.{refusedAs, backFrom};
 use eb_read::ReadAnswer;
 use eb_record_spec::Beacon;
-
-// A record's arrays have their sizes by their types. The function does nothing; a proof learns it from the call.
-fn sized(beacon: Beacon)
-    ensures { λ _. ⌜ Sized beacon ⌝ }
-{}
 
 // What comes back of a record that is not written.
 fn refused(number: u8) -> ReadAnswer
@@ -31,7 +25,6 @@ pub fn write_and_read(buffer: &mut [u8], beacon: Beacon) -> ReadAnswer
     if written.number != refusal::DONE {
         return refused(written.number);
     }
-    sized(beacon);
     let length = written.length;
     eb_read::read(&buffer[..length])
 }

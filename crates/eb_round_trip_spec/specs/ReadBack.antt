@@ -2,7 +2,8 @@
 use Prim.Native.Nat.{ℕ, _<_, _≤_}
 use mathlib.Core.Path.{_≡_}
 use mathlib.Core.Bool.{true}
-use lib.ListN.{length}
+use mathlib.Core.List.{List}
+use lib.ListN.{length, take}
 use Rattle.refusal.specs.Refusal.{done}
 use Rattle.eb_record_spec.specs.declared.Beacon.{Beacon}
 use Rattle.eb_record_spec.specs.declared.BeaconForm.{BeaconForm}
@@ -28,6 +29,10 @@ pub record Writable (beacon : Beacon) : Type 0 where
 -- the frame of a record that can be written is of the grammar, and says that record
 abbrev pub WrittenIsOfTheGrammar : Type 0
 WrittenIsOfTheGrammar = (beacon : Beacon) → Writable beacon → Accepts (frameOf beacon) beacon
+
+-- what a call of writing leaves is as the grammar says: where it is done, the bytes that it put are a frame, and say the record
+pub record WrittenAsSaid (number size : ℕ) (buffer : List ℕ) (beacon : Beacon) : Type 0 where
+  pub says : number ≡ done → Accepts (take size buffer) beacon
 
 -- reading the frame of a record that can be written is done, and gives that record
 abbrev pub FramesReadBack : Type 0

@@ -15,6 +15,10 @@ use Rattle.eb_record_spec.specs.declared.Beacon.{Beacon}
 use Rattle.eb_write_spec.specs.Frame.{frameOf}
 use Rattle.eb_write_spec.specs.Limits.{fits}
 use Rattle.eb_write_spec.specs.Write.{writtenNumber, writtenIn, bufferAfter}
+use Rattle.eb_write_spec.specs.Claims.{WriteNumbers}
+use Rattle.eb_write_spec.proofs.Claimed.{write-numbers}
+use Rattle.eb_round_trip_spec.specs.ReadBack.{Sized, WrittenAsSaid}
+use Rattle.eb_round_trip_spec.proofs.RoundTripLaws.{written-as-said}
 
 -- ---- a refusal, and the frame written
 module _ (b : Beacon) (s : List ℕ) (k : ℕ) (is : k ≡ writtenNumber b (length s)) where
@@ -72,5 +76,10 @@ module _ (b : Beacon) (f : Bool) (limits : f ≡ fits b) where
         done-buffer s t k put =
             let offset : 0 + length (frameOf b) ≡ length (frameOf b) = omega arith in
             rw (sym (number-done (length s) k)) (put ∙ (sets-eq (frameOf b) s 0 (omega (arith, whole)) ∙ rw offset))
+
+-- the first two promises of a call give the other two
+pub promises : (b : Beacon) (s after : List ℕ) (number size : ℕ) → Sized b → record { number = number; length = size } ≡ writtenIn b (length s) → after ≡ bufferAfter b s
+    → (record { number = number; length = size } ≡ writtenIn b (length s)) × ((after ≡ bufferAfter b s) × (WriteNumbers × WrittenAsSaid number size after b))
+promises b s after number size sized answer stands = (answer, (stands, (write-numbers, written-as-said b s after number size sized answer stands)))
 
 pub ruleset answers = (refused-answer, number-limits, limits-buffer, number-long, long-buffer, number-short, short-buffer, done-answer, done-buffer)

@@ -19,17 +19,14 @@ returns c =
     let written = c .before .before .before .before .before .write .ensures in
     (back-refused (a .beacon) (a .buffer .now) _ (written .0) _ (search needs) (c .refused .ensures), written .1 .0)
 
-sized-requires : tie.Need-sized-requires
-sized-requires c κs = search needs
-
 slice-reshare-prefix-read : tie.Need-slice-reshare-prefix-read
 slice-reshare-prefix-read c =
-    let written = c .before .before .before .before .before .write .ensures in
+    let written = c .before .before .before .before .write .ensures in
     back-fits _ _ _ (written .0) (search needs) _ (written .1 .0)
 
 slice-aggregate-read : tie.Need-slice-aggregate-read
 slice-aggregate-read c =
-    let written = c .before .before .before .before .before .before .write .ensures in
+    let written = c .before .before .before .before .before .write .ensures in
     back-part _ _ _ (written .0) (search needs) _ (written .1 .0)
 
 read-requires : tie.Need-read-requires
@@ -40,12 +37,12 @@ same-length-2 c = search needs
 
 returns-2 : tie.Need-returns-2
 returns-2 c =
-    let a = c .before .before .before .before .before .before .before .before .before .before .args in
-    let written = c .before .before .before .before .before .before .before .write .ensures in
-    (back-read (a .beacon) (a .buffer .now) _ (written .0) (search needs) _ (written .1 .0) (written .1 .1) (search needs) _ (c .read .ensures .0), written .1 .0)
+    let a = c .before .before .before .before .before .before .before .before .before .args in
+    let written = c .before .before .before .before .before .before .write .ensures in
+    (back-read (a .beacon) (a .buffer .now) _ (written .0) (search needs) _ (written .1 .0) (written .1 .1 .1) _ (search needs), written .1 .0)
 
 pub write-and-read-spec : {M : Type 1} → statement M
 write-and-read-spec =
     tie.close
-    (tie.spec write-requires refused-requires same-length returns sized-requires slice-reshare-prefix-read
+    (tie.spec write-requires refused-requires same-length returns slice-reshare-prefix-read
     slice-aggregate-read read-requires same-length-2 returns-2)
