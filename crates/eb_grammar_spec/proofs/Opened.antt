@@ -11,9 +11,8 @@ use Rattle.octets_spec.specs.Number.{leAt}
 use Rattle.octets_spec.proofs.ChoiceLaws.{if-ge, by-test, was-eq, was-ge}
 use Rattle.refusal.specs.Refusal.{done, frameTooLong, cut, wrongType, secured, addressing}
 use Rattle.mac_header_spec.specs.Control.{controlOf}
-use Rattle.mac_header_spec.specs.Fields.{addressLength, offsetsOf, macHeaderOf, sequenceOf, addressOf}
+use Rattle.mac_header_spec.specs.Fields.{addressLength, macHeaderOf, sequenceOf, addressOf}
 use Rattle.mac_header_spec.specs.declared.Control.{Control}
-use Rattle.mac_header_spec.specs.declared.FieldOffsets.{FieldOffsets}
 use Rattle.mac_header_spec.specs.declared.MacHeader.{MacHeader}
 use Rattle.mac_header_spec.specs.declared.SequenceNumber.{SequenceNumber}
 use Rattle.mac_header_spec.specs.declared.SequenceNumber.the-variants.{Absent, Number}
@@ -24,7 +23,7 @@ use Rattle.eb_read_spec.specs.Claims.{Bytes}
 use Rattle.eb_read_spec.specs.Policy.{formFault, policyFault, macHeaderFault}
 use Rattle.eb_read_spec.proofs.Each.{each-eq}
 use Rattle.eb_read_spec.proofs.PolicyLaws.{accepted}
-use Rattle.eb_grammar_spec.proofs.Stands.{Stands, stands-whole, stands-first, stands-rest, stands-at}
+use Rattle.eb_grammar_spec.proofs.Stands.{Stands, stands-whole, stands-first, stands-rest}
 use Rattle.eb_grammar_spec.specs.Row.{le}
 use Rattle.eb_grammar_spec.specs.Grammar.{SequenceBytes, numbered, suppressed, SourceBytes, short-source, extended-source, FrameControl, FixedFields, fixed-fields}
 use Rattle.eb_grammar_spec.proofs.Slices.{part, part-at, part-cons, part-append, part-stands, length-part, le-stands, le-part}
