@@ -5,7 +5,10 @@ use mathlib.Core.Path.{_≡_, refl, sym, _∙_, ap, subst}
 use mathlib.Core.Bool.{true}
 use mathlib.Core.List.{List, [], _∷_, _++_, append-nil, append-assoc}
 use mathlib.Core.Logic.{_⊎_, inl, inr, ⊎-elim}
+use native.Mathlib.Nat.{mod-lt, div-div-eq-div-mul, dvd-mul-right, mod-mod-of-dvd}
 use native.Mathlib.Omega.{arith}
+use lib.Arith.{digits-div, mod-mul}
+use lib.Dec.{T, lit<, ltb}
 use lib.ListN.{length, getD, length-append}
 use Rattle.octets_spec.proofs.ChoiceLaws.{if-eq, if-ne}
 use Rattle.mac_header_spec.specs.declared.SequenceNumber.{SequenceNumber}
@@ -22,48 +25,44 @@ use Rattle.eb_grammar_spec.proofs.Timed.{timeslot-value}
 use Rattle.eb_grammar_spec.proofs.Joined.{no-entry}
 use Rattle.eb_grammar_spec.proofs.Unique.{split, heads, fields-same, header-same, payload-same}
 
+-- ---- bits that lie within others: c values from a on, of c * d * a values from u on
+within : (u a c d v w : ℕ) → T (ltb 0 a) → T (ltb 0 (c * d)) → v / u % (c * d * a) ≡ w / u % (c * d * a) → v / (u * a) % c ≡ w / (u * a) % c
+within u a c d v w some some-more e = inside v ∙ (ap (λ (n : ℕ). n / a % c) e ∙ sym (inside w))
+  where
+    inside : (n : ℕ) → n / (u * a) % c ≡ n / u % (c * d * a) / a % c
+    inside n = rw (mod-mul (n / u) {m = c * d} {c = a} (lit< some-more) (lit< some), digits-div (n / u / a % (c * d)) (mod-lt (n / u) (lit< some)), mod-mod-of-dvd c (n / u / a) (dvd-mul-right c d), div-div-eq-div-mul)
+
 -- ---- the fixed fields and the header elements
-eighth : (n : ℕ) → n / 8 % 2 ≡ n % 16 / 8
-eighth n = omega arith
+two-bytes : (low x : ℕ) → low < 256 → ((low + 256 * x) / 1 % 16 ≡ low / 1 % 16) × ((low + 256 * x) / 1 % 256 ≡ low / 1 % 256) × ((low + 256 * x) / 256 ≡ x)
+two-bytes low x small = (omega arith, omega arith, omega arith)
 
-three : (v w : ℕ) → v % 16 ≡ w % 16 → w / 1 % 8 ≡ 0 → v / 1 % 8 ≡ 0
-three v w e f = omega (arith, e, f)
+module _ (low other : ℕ) (small : low < 256) (small′ : other < 256) (four : bits 0 4 low ≡ bits 0 4 other) (six : bits 6 1 low ≡ bits 6 1 other) (high : ℕ) where
+  other-bits : (suppression mode : ℕ) → FrameControl (le (low ∷ high ∷ [])) suppression mode → FrameControl (le (other ∷ high ∷ [])) suppression mode
+  unfolding le
+  other-bits suppression mode c =
+      let x : ℕ = high + 256 * 0 in
+      let v : ℕ = other + 256 * x in
+      let w : ℕ = low + 256 * x in
+      let new = two-bytes other x small′ in
+      let old = two-bytes low x small in
+      let below : v / 1 % 16 ≡ w / 1 % 16 = new .0 ∙ (sym four ∙ sym (old .0)) in
+      let above : v / 256 % 256 ≡ w / 256 % 256 = rw (new .2, old .2) in
+      record {
+        type = within 1 1 8 2 v w tt tt below ∙ c .type;
+        security = within 1 8 2 1 v w tt tt below ∙ c .security;
+        compression = within 1 64 2 2 v other tt tt (new .1) ∙ (sym six ∙ (within 1 64 2 2 low w tt tt (sym (old .1)) ∙ c .compression));
+        suppression = within 256 1 2 128 v w tt tt above ∙ c .suppression;
+        elements = within 256 2 2 64 v w tt tt above ∙ c .elements;
+        destination = within 256 4 4 16 v w tt tt above ∙ c .destination;
+        version = within 256 16 4 4 v w tt tt above ∙ c .version;
+        source = within 256 64 4 1 v w tt tt above ∙ c .source;
+      }
 
-even : (n k : ℕ) → (n + 4 * k) % 2 ≡ n % 2
-even n k = omega arith
-
-sixth : (n x : ℕ) → (n + 256 * x) / 64 % 2 ≡ n / 64 % 2
-sixth n x = let k : (n + 256 * x) / 64 ≡ n / 64 + 4 * x = omega arith in rw k (even (n / 64) x)
-
-module _ (low other : ℕ) (small : low < 256) (small′ : other < 256) where
-  same-above : (x : ℕ) → let v : ℕ = other + 256 * x in let w : ℕ = low + 256 * x in (v / 256 ≡ w / 256) × (v / 512 ≡ w / 512) × (v / 1024 ≡ w / 1024) × (v / 4096 ≡ w / 4096) × (v / 16384 ≡ w / 16384)
-  same-above x = (omega arith, omega arith, omega arith, omega arith, omega arith)
-
-  module _ (four : bits 0 4 low ≡ bits 0 4 other) (six : bits 6 1 low ≡ bits 6 1 other) (high : ℕ) where
-    same-below : (x : ℕ) → (other + 256 * x) % 16 ≡ (low + 256 * x) % 16
-    same-below x = omega (arith, four)
-
-    other-bits : (suppression mode : ℕ) → FrameControl (le (low ∷ high ∷ [])) suppression mode → FrameControl (le (other ∷ high ∷ [])) suppression mode
-    unfolding le
-    other-bits suppression mode c =
-        let x : ℕ = high + 256 * 0 in
-        let above = same-above x in
-        record {
-          type = three (other + 256 * x) (low + 256 * x) (same-below x) (c .type);
-          security = eighth (other + 256 * x) ∙ (ap (λ (n : ℕ). n / 8) (same-below x) ∙ (sym (eighth (low + 256 * x)) ∙ c .security));
-          compression = sixth other x ∙ (sym six ∙ (sym (sixth low x) ∙ c .compression));
-          suppression = ap (λ (n : ℕ). n % 2) (above .0) ∙ c .suppression;
-          elements = ap (λ (n : ℕ). n % 2) (above .1) ∙ c .elements;
-          destination = ap (λ (n : ℕ). n % 4) (above .2) ∙ c .destination;
-          version = ap (λ (n : ℕ). n % 4) (above .3) ∙ c .version;
-          source = ap (λ (n : ℕ). n % 4) (above .4) ∙ c .source;
-        }
-
-    other-fields : (rest xs fields : List ℕ) (n : SequenceNumber) (p : ℕ) (s : Address) → FixedFields fields n p s → low ∷ high ∷ rest ≡ fields ++ xs → (changed : List ℕ) × FixedFields changed n p s × (other ∷ high ∷ rest ≡ changed ++ xs)
-    other-fields rest xs _ _ _ _ (fixed-fields l h p q {suppression} {mode} {sequence} {source} c q-says s-says) e =
-        let head = heads e in
-        let d : FrameControl (le (other ∷ h ∷ [])) suppression mode = rw (head .1) at (other-bits suppression mode (rw (head .0, head .1) c)) in
-        (other ∷ h ∷ (sequence ++ (p ∷ q ∷ 255 ∷ 255 ∷ source)), fixed-fields other h p q d q-says s-says, rw (head .1, head .2))
+  other-fields : (rest xs fields : List ℕ) (n : SequenceNumber) (p : ℕ) (s : Address) → FixedFields fields n p s → low ∷ high ∷ rest ≡ fields ++ xs → (changed : List ℕ) × FixedFields changed n p s × (other ∷ high ∷ rest ≡ changed ++ xs)
+  other-fields rest xs _ _ _ _ (fixed-fields l h p q {suppression} {mode} {sequence} {source} c q-says s-says) e =
+      let head = heads e in
+      let d : FrameControl (le (other ∷ h ∷ [])) suppression mode = rw (head .1) at (other-bits suppression mode (rw (head .0, head .1) c)) in
+      (other ∷ h ∷ (sequence ++ (p ∷ q ∷ 255 ∷ 255 ∷ source)), fixed-fields other h p q d q-says s-says, rw (head .1, head .2))
 
 pub ignored-bits-do-not-count : IgnoredBitsDoNotCount
 ignored-bits-do-not-count low other high rest b small small′ four six a =
@@ -261,38 +260,17 @@ module _ (h f : List Element) (kind : ℕ) where
   elsewhere c d k n = contents-append k h _ ∙ (ap (λ (cs : List (List ℕ)). contents k h ++ cs) (sym (if-ne _ _ kind k n refl) ∙ if-ne _ _ kind k n refl) ∙ sym (contents-append k h _))
 
 -- ---- joining information's reserved bits
-bit-31 : (n : ℕ) → n / 2147483648 % 2 ≡ n / 1073741824 % 4 / 2
-bit-31 n = let k : n / 2147483648 ≡ n / 1073741824 / 2 = omega arith in rw k (omega arith)
-
-bit-30 : (n : ℕ) → n / 1073741824 % 2 ≡ n / 1073741824 % 4 % 2
-bit-30 n = omega arith
-
-bits-20 : (n : ℕ) → n / 1048576 % 128 ≡ n / 1 % 134217728 / 1048576
-bits-20 n = omega arith
-
-bits-8 : (n : ℕ) → n / 256 % 4096 ≡ n / 1 % 134217728 / 256 % 4096
-bits-8 n = let k : n / 1 % 134217728 / 256 ≡ n / 256 % 524288 = omega arith in rw k (omega arith)
-
-bits-0 : (n : ℕ) → n / 1 % 256 ≡ n / 1 % 134217728 % 256
-bits-0 n = omega arith
-
 module _ (word other content : List ℕ) (four : length word ≡ 4) (four′ : length other ≡ 4) (top : bits 30 2 (be word) ≡ bits 30 2 (be other)) (low : bits 0 27 (be word) ≡ bits 0 27 (be other)) where
-  by-top : (f : ℕ → ℕ) (g : ℕ → ℕ) → ((n : ℕ) → f n ≡ g (n / 1073741824 % 4)) → f (be word) ≡ f (be other)
-  by-top f g is = is (be word) ∙ (ap g top ∙ sym (is (be other)))
-
-  by-low : (f : ℕ → ℕ) (g : ℕ → ℕ) → ((n : ℕ) → f n ≡ g (n / 1 % 134217728)) → f (be word) ≡ f (be other)
-  by-low f g is = is (be word) ∙ (ap g low ∙ sym (is (be other)))
-
   joining-changed : (cs : List (List ℕ)) (j : JoiningInformation) → JoiningContent cs j → (before after : List (List ℕ)) → cs ≡ before ++ ((word ++ content) ∷ after) → JoiningContent (before ++ ((other ++ content) ∷ after)) j
   joining-changed _ _ absent before after e = absurd (no-entry _ before after e)
   joining-changed _ _ (joining w address network w-four eight few) before after e =
       let one = only-one (w ++ (address ++ network)) (word ++ content) (other ++ content) before after (sym e) in
       let cut = split w word (address ++ network) content (sym (one .0)) (w-four ∙ sym four) in
-      let p : bits 30 1 (be word) ≡ bits 30 1 (be other) = by-top (λ n. bits 30 1 n) (λ n. n % 2) bit-30 in
-      let r : bits 31 1 (be word) ≡ bits 31 1 (be other) = by-top (λ n. bits 31 1 n) (λ n. n / 2) bit-31 in
-      let proxy : bits 20 7 (be word) ≡ bits 20 7 (be other) = by-low (λ n. bits 20 7 n) (λ n. n / 1048576) bits-20 in
-      let rank : bits 8 12 (be word) ≡ bits 8 12 (be other) = by-low (λ n. bits 8 12 n) (λ n. n / 256 % 4096) bits-8 in
-      let pan : bits 0 8 (be word) ≡ bits 0 8 (be other) = by-low (λ n. bits 0 8 n) (λ n. n % 256) bits-0 in
+      let p : bits 30 1 (be word) ≡ bits 30 1 (be other) = within 1073741824 1 2 2 _ _ tt tt top in
+      let r : bits 31 1 (be word) ≡ bits 31 1 (be other) = within 1073741824 2 2 1 _ _ tt tt top in
+      let proxy : bits 20 7 (be word) ≡ bits 20 7 (be other) = within 1 1048576 128 1 _ _ tt tt low in
+      let rank : bits 8 12 (be word) ≡ bits 8 12 (be other) = within 1 256 4096 128 _ _ tt tt low in
+      let pan : bits 0 8 (be word) ≡ bits 0 8 (be other) = within 1 1 256 524288 _ _ tt tt low in
       let eight′ : length address ≡ 8 * bits 30 1 (be other) = eight ∙ rw (cut .0, p) in
       rw (one .1, ← cut .1, cut .0, r, p, proxy, rank, pan) (joining other address network four′ eight′ few)
 
