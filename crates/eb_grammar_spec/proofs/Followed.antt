@@ -17,7 +17,7 @@ use Rattle.eb_record_spec.specs.declared.TimeslotTemplate.{TimeslotTemplate}
 use Rattle.eb_record_spec.specs.declared.JoiningInformation.{JoiningInformation}
 use Rattle.eb_record_spec.specs.declared.Beacon.{Beacon}
 use Rattle.eb_grammar_spec.specs.Row.{le, be, bits}
-use Rattle.eb_grammar_spec.specs.Grammar.{FrameControl, FixedFields, fixed-fields, Descriptor, HeaderElements, Element, SubElements, group-end, sub-element, mlme, ietf-element, PayloadElements, bytes-end, payload-end, payload-element, TimeslotContent, timed-25, timed-27, JoiningContent, absent, joining, contents, Says, Accepts}
+use Rattle.eb_grammar_spec.specs.Grammar.{FrameControl, FixedFields, fixed-fields, Descriptor, HeaderElements, Element, SubElements, group-end, sub-element, mlme, ietf-element, PayloadElements, bytes-end, payload-end, payload-element, TimeslotContent, timed-25, timed-27, JoiningContent, absent, joining, contents, Once, Says, Accepts}
 use Rattle.eb_grammar_spec.specs.Follows.{Known, SameKnown, Before, OneElement, one-element, one-sub-element, IgnoredBitsDoNotCount, HeaderElementsDoNotCount, NothingCountsBehind7F, KnownContentsCount, BytesBehindGroup15DoNotCount, UnknownElementsDoNotCount, UnknownSubElementsDoNotCount, OrderDoesNotCount, ReservedJoiningBitsDoNotCount, BothTimingFormsSayTheSame}
 use Rattle.eb_grammar_spec.proofs.Stands.{stands-whole}
 use Rattle.eb_grammar_spec.proofs.Notes.{contents-append}
@@ -64,10 +64,16 @@ module _ (low other : ℕ) (small : low < 256) (small′ : other < 256) (four : 
       let d : FrameControl (le (other ∷ h ∷ [])) suppression mode = rw (head .1) at (other-bits suppression mode (rw (head .0, head .1) c)) in
       (other ∷ h ∷ (sequence ++ (p ∷ q ∷ 255 ∷ 255 ∷ source)), fixed-fields other h p q d q-says s-says, rw (head .1, head .2))
 
+-- a frame is accepted by its parts
+accepts : {s fields header payload : List ℕ} {low high : ℕ} {found : List Element} {b : Beacon} → length s ≤ 125 → s ≡ fields ++ (header ++ (low ∷ high ∷ payload)) → FixedFields fields (b .sequence) (b .pan) (b .source)
+    → HeaderElements header → Descriptor 7 low high 0 126 0 → PayloadElements payload found → Says found b → Accepts s b
+accepts short stands opens skips follows lists says =
+    record { fields = _; header = _; low = _; high = _; payload = _; found = _; at-most-125 = short; stands = stands; opens = opens; skips = skips; follows = follows; lists = lists; says = says }
+
 pub ignored-bits-do-not-count : IgnoredBitsDoNotCount
 ignored-bits-do-not-count low other high rest b small small′ four six a =
     let f = other-fields low other small small′ four six high rest _ (a .fields) _ _ _ (a .opens) (a .stands) in
-    record { fields = f .0; header = a .header; low = a .low; high = a .high; payload = a .payload; found = a .found; at-most-125 = a .at-most-125; stands = f .2; opens = f .1; skips = a .skips; follows = a .follows; lists = a .lists; says = a .says }
+    accepts (a .at-most-125) (f .2) (f .1) (a .skips) (a .follows) (a .lists) (a .says)
 
 ends-126 : (_≡_ {A = ℕ} 126 126 → ⊥) → (_≡_ {A = ℕ} 126 127 → ⊥) → ⊥
 ends-126 n m = n refl
@@ -93,21 +99,7 @@ nothing-counts-behind-7f fields header rest low high size pan sequence source b 
 pub header-elements-do-not-count : HeaderElementsDoNotCount
 header-elements-do-not-count fields header other payload low high pan sequence source b opens skips skips′ d short a =
     let same = front-same fields header sequence pan source opens skips low high 0 126 payload d ends-126 _ b a refl in
-    record {
-      fields = a .fields;
-      header = other;
-      low = a .low;
-      high = a .high;
-      payload = a .payload;
-      found = a .found;
-      at-most-125 = short;
-      stands = rw (same .0, same .2);
-      opens = a .opens;
-      skips = skips′;
-      follows = a .follows;
-      lists = a .lists;
-      says = a .says;
-    }
+    accepts short (rw (same .0, same .2)) (a .opens) skips′ (a .follows) (a .lists) (a .says)
 
 -- ---- the payload list
 -- what stands behind payload elements goes on with the list, or is ignored
@@ -132,21 +124,7 @@ module _ (before : List ℕ) (p : Before before) (xs ys : List ℕ) (f g : List 
       let same = front-same (p .fields) (p .header) _ _ _ (p .opens) (p .skips) (p .low) (p .high) 0 126 (p .payload ++ xs) (p .follows) ends-126 _ b a (behind xs) in
       let list = heads (same .2) .2 in
       let with : (found : List Element) → PayloadElements (p .payload ++ ys) found → Says found b → Accepts (before ++ ys) b =
-      λ found lists said. record {
-        fields = a .fields;
-        header = a .header;
-        low = p .low;
-        high = p .high;
-        payload = p .payload ++ ys;
-        found = found;
-        at-most-125 = short;
-        stands = rw (← same .0, ← same .1) (behind ys);
-        opens = a .opens;
-        skips = a .skips;
-        follows = p .follows;
-        lists = lists;
-        says = said;
-      } in
+      λ found lists said. accepts short (rw (← same .0, ← same .1) (behind ys)) (a .opens) (a .skips) (p .follows) lists said in
       ⊎-elim
       (λ go.
       let found : p .found ++ f ≡ a .found = payload-same _ _ _ _ (go xs f one) (a .lists) list in
@@ -157,14 +135,19 @@ module _ (before : List ℕ) (p : Before before) (xs ys : List ℕ) (f g : List 
       (goes-on (p .payload) (p .found) (p .lists))
 
 -- ---- elements that say the same
-says-same : (f g : List Element) (b : Beacon) → SameKnown f g → Says f b → Says g b
-says-same f g b same says = record {
-  synchronization = (says .synchronization .0, sym (same 26 (inl refl)) ∙ says .synchronization .1, says .synchronization .2);
-  timeslot = (says .timeslot .0, sym (same 28 (inr (inr (inl refl)))) ∙ says .timeslot .1, says .timeslot .2);
-  hopping = (says .hopping .0, sym (same 137 (inr (inr (inr (inl refl))))) ∙ says .hopping .1, says .hopping .2);
-  slotframe = (says .slotframe .0, sym (same 27 (inr (inl refl))) ∙ says .slotframe .1, says .slotframe .2);
-  joining = rw (← same 258 (inr (inr (inr (inr refl))))) (says .joining);
+-- timeslot and joining information may differ in their contents
+says-but : (f g : List Element) (b : Beacon) → ((k : ℕ) → Known k → (28 ≡ k → ⊥) → (258 ≡ k → ⊥) → contents k f ≡ contents k g) → (Once 28 f (λ c. TimeslotContent c (b .timeslot)) → Once 28 g (λ c. TimeslotContent c (b .timeslot)))
+    → (JoiningContent (contents 258 f) (b .joining) → JoiningContent (contents 258 g) (b .joining)) → Says f b → Says g b
+says-but f g b same timed joined says = record {
+  synchronization = rw (← same 26 (inl refl) (λ z. omega arith) (λ z. omega arith)) (says .synchronization);
+  timeslot = timed (says .timeslot);
+  hopping = rw (← same 137 (inr (inr (inr (inl refl)))) (λ z. omega arith) (λ z. omega arith)) (says .hopping);
+  slotframe = rw (← same 27 (inr (inl refl)) (λ z. omega arith) (λ z. omega arith)) (says .slotframe);
+  joining = joined (says .joining);
 }
+
+says-same : (f g : List Element) (b : Beacon) → SameKnown f g → Says f b → Says g b
+says-same f g b same = says-but f g b (λ k known not-28 not-258. same k known) (λ t. rw (← same 28 (inr (inr (inl refl)))) t) (λ j. rw (← same 258 (inr (inr (inr (inr refl))))) j)
 
 behind-same : (h f g : List Element) → SameKnown f g → SameKnown (h ++ f) (h ++ g)
 behind-same h f g same k known = rw (contents-append k h f, contents-append k h g, same k known)
@@ -278,33 +261,23 @@ pub reserved-joining-bits-do-not-count : ReservedJoiningBitsDoNotCount
 reserved-joining-bits-do-not-count before word other content _ _ rest found b p four four′ top low (one-element l h d) (one-element l′ h′ d′) list short =
     let lists : (low high : ℕ) (c : List ℕ) → Descriptor 11 low high (suc (length c)) 5 1 → PayloadElements (low ∷ high ∷ 2 ∷ (c ++ rest)) (record { kind = 258; content = c } ∷ found) =
     λ low high c d. payload-element low high 5 (2 ∷ c) d (λ (z : _≡_ {A = ℕ} 5 15). omega arith) (ietf-element 2 c) list in
-    let same : (k : ℕ) → (258 ≡ k → ⊥) → contents k (p .found ++ (record { kind = 258; content = word ++ content } ∷ found)) ≡ contents k (p .found ++ (record { kind = 258; content = other ++ content } ∷ found)) =
-    elsewhere (p .found) found 258 (word ++ content) (other ++ content) in
+    let same = elsewhere (p .found) found 258 (word ++ content) (other ++ content) in
     replaced before p _ _ _ _ b (lists l h (word ++ content) d) (lists l′ h′ (other ++ content) d′)
-    (λ says. record {
-      synchronization = (says .synchronization .0, sym (same 26 (λ (z : _≡_ {A = ℕ} 258 26). omega arith)) ∙ says .synchronization .1, says .synchronization .2);
-      timeslot = (says .timeslot .0, sym (same 28 (λ (z : _≡_ {A = ℕ} 258 28). omega arith)) ∙ says .timeslot .1, says .timeslot .2);
-      hopping = (says .hopping .0, sym (same 137 (λ (z : _≡_ {A = ℕ} 258 137). omega arith)) ∙ says .hopping .1, says .hopping .2);
-      slotframe = (says .slotframe .0, sym (same 27 (λ (z : _≡_ {A = ℕ} 258 27). omega arith)) ∙ says .slotframe .1, says .slotframe .2);
-      joining = rw (here (p .found) found 258 (other ++ content)) (joining-changed word other content four four′ top low _ _ (says .joining) (contents 258 (p .found)) (contents 258 found) (here (p .found) found 258 (word ++ content)));
-    }) short
+    (says-but _ _ b (λ k known not-28 not-258. same k not-258) (λ t. rw (← same 28 (λ z. omega arith)) t)
+    (λ j. rw (here (p .found) found 258 (other ++ content)) (joining-changed word other content four four′ top low _ _ j (contents 258 (p .found)) (contents 258 found) (here (p .found) found 258 (word ++ content))))) short
 
 -- ---- the two forms of timings
 other-timings : (c : List ℕ) (t u : TimeslotTemplate) → TimeslotContent c t → TimeslotContent c u → t ≡ u
 other-timings c t u one other = let h = stands-whole c c refl in timeslot-value c 0 c t one h ∙ sym (timeslot-value c 0 c u other h)
 
 timings-changed : (h f : List Element) (c d : List ℕ) (u : TimeslotTemplate) (b : Beacon) → TimeslotContent c u → TimeslotContent d u → Says (h ++ (record { kind = 28; content = c } ∷ f)) b → Says (h ++ (record { kind = 28; content = d } ∷ f)) b
-timings-changed h f c d u b was is says =
-    let same : (k : ℕ) → (28 ≡ k → ⊥) → contents k (h ++ (record { kind = 28; content = c } ∷ f)) ≡ contents k (h ++ (record { kind = 28; content = d } ∷ f)) = elsewhere h f 28 c d in
-    let one = only-one (says .timeslot .0) c d (contents 28 h) (contents 28 f) (sym (here h f 28 c) ∙ says .timeslot .1) in
-    let t-is : u ≡ b .timeslot = other-timings c u (b .timeslot) was (rw (one .0) (says .timeslot .2)) in
-    record {
-      synchronization = (says .synchronization .0, sym (same 26 (λ (z : _≡_ {A = ℕ} 28 26). omega arith)) ∙ says .synchronization .1, says .synchronization .2);
-      timeslot = (d, here h f 28 d ∙ one .1, subst (λ t. TimeslotContent d t) t-is is);
-      hopping = (says .hopping .0, sym (same 137 (λ (z : _≡_ {A = ℕ} 28 137). omega arith)) ∙ says .hopping .1, says .hopping .2);
-      slotframe = (says .slotframe .0, sym (same 27 (λ (z : _≡_ {A = ℕ} 28 27). omega arith)) ∙ says .slotframe .1, says .slotframe .2);
-      joining = rw (← same 258 (λ (z : _≡_ {A = ℕ} 28 258). omega arith)) (says .joining);
-    }
+timings-changed h f c d u b was is =
+    let same = elsewhere h f 28 c d in
+    says-but _ _ b (λ k known not-28 not-258. same k not-28)
+    (λ t.
+    let one = only-one (t .0) c d (contents 28 h) (contents 28 f) (sym (here h f 28 c) ∙ t .1) in
+    (d, here h f 28 d ∙ one .1, subst (λ t. TimeslotContent d t) (other-timings c u (b .timeslot) was (rw (one .0) (t .2))) is))
+    (λ j. rw (← same 258 (λ z. omega arith)) j)
 
 regroup : (h u : List Element) (x : Element) (v f : List Element) → h ++ ((u ++ (x ∷ v)) ++ f) ≡ (h ++ u) ++ (x ∷ (v ++ f))
 regroup h u x v f = ap (λ (l : List Element). h ++ l) (append-assoc u (x ∷ v) f) ∙ sym (append-assoc h u (x ∷ (v ++ f)))
