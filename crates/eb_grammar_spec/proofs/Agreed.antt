@@ -179,41 +179,31 @@ module _ (s : List ℕ) (b : Beacon) (bytes : Bytes s) (a : Accepts s b) where
       let same : one .content ≡ c = single (one .content) c [] [] (sym (one .only) ∙ only) .1 in
       (one .some, rw same at (one .stands), rw same at (one .ends))
 
-  abbrev n : Notes s w (a .found)
-  n = notes-before s (passing .walk) (heading .count) (a .found) (passing .notes)
-
-  sync : (w .synchronization ≡ 0 → ⊥) × Stands s (w .synchronization) (a .says .synchronization .0) × (n .synchronization .0 ≡ w .synchronization + length (a .says .synchronization .0))
-  sync = noted 26 _ _ (a .says .synchronization .0) (a .says .synchronization .1) (n .synchronization .1)
-
-  time : (w .timeslot ≡ 0 → ⊥) × Stands s (w .timeslot) (a .says .timeslot .0) × (w .timeslotend ≡ w .timeslot + length (a .says .timeslot .0))
-  time = noted 28 _ _ (a .says .timeslot .0) (a .says .timeslot .1) (n .timeslot)
-
-  hop : (w .hopping ≡ 0 → ⊥) × Stands s (w .hopping) (b .hopping ∷ []) × (n .hopping .0 ≡ w .hopping + 1)
-  hop = noted 137 _ _ (b .hopping ∷ []) hopping-once (n .hopping .1)
-
-  slot : (w .slotframe ≡ 0 → ⊥) × Stands s (w .slotframe) (a .says .slotframe .0) × (n .slotframe .0 ≡ w .slotframe + length (a .says .slotframe .0))
-  slot = noted 27 _ _ (a .says .slotframe .0) (a .says .slotframe .1) (n .slotframe .1)
-
-  none-missing : 0 ≡ missing w
-  unfolding missing
-  none-missing = if-ne _ _ _ _ (sync .0) (if-ne _ _ _ _ (time .0) (if-ne _ _ _ _ (hop .0) (if-ne _ _ _ _ (slot .0) refl)))
-
   joining-reads : (cs : List (List ℕ)) → JoiningContent cs (b .joining) → Kept s 258 (w .joining) (w .joiningend) cs → b .joining ≡ joiningAt s (w .joining) (w .joiningend)
   joining-reads cs says (inl none) = joining-value-none s bytes cs (b .joining) says (none .1) _ _ (none .0)
   joining-reads cs says (inr one) = joining-value-one s bytes cs (b .joining) says (one .content) (one .only) _ _ (one .some) (one .ends) (one .stands)
 
-  decodes-it : b ≡ decoded s w
-  unfolding Stands
+  -- so none is missing, and what is noted decodes to the record
+  decodes-it : (0 ≡ missing w) × (b ≡ decoded s w)
+  unfolding missing Stands
   decodes-it =
-      let long : length (a .says .timeslot .0) ≡ w .timeslotend - w .timeslot = omega (arith, time .2) in
-      decodes s w (b .sequence) (b .pan) (b .source) (b .synchronization) (b .timeslot) (length (a .says .timeslot .0)) (b .hopping) (b .slotframe) (b .joining) (opening .reading .sequence-is) (opening .reading .pan-is) (opening .reading .source-is)
-      (sync-value s _ (a .says .synchronization .0) (sync .1) _ _ (a .says .synchronization .2)) long (timeslot-value s _ (a .says .timeslot .0) (b .timeslot) (a .says .timeslot .2) (time .1)) (sym (hop .1 .0))
-      (slotframe-value s _ (a .says .slotframe .0) (b .slotframe) (a .says .slotframe .2) (slot .1)) (joining-reads _ (a .says .joining) (n .joining))
+      let n : Notes s w (a .found) = notes-before s (passing .walk) (heading .count) (a .found) (passing .notes) in
+      let sync = noted 26 _ _ (a .says .synchronization .0) (a .says .synchronization .1) (n .synchronization .1) in
+      let time = noted 28 _ _ (a .says .timeslot .0) (a .says .timeslot .1) (n .timeslot) in
+      let hop = noted 137 _ _ (b .hopping ∷ []) hopping-once (n .hopping .1) in
+      let slot = noted 27 _ _ (a .says .slotframe .0) (a .says .slotframe .1) (n .slotframe .1) in
+      let long : length (a .says .timeslot .0) ≡ w .timeslotend - w .timeslot = omega (arith, time .2) in (
+        if-ne _ _ _ _ (sync .0) (if-ne _ _ _ _ (time .0) (if-ne _ _ _ _ (hop .0) (if-ne _ _ _ _ (slot .0) refl))),
+        decodes s w (b .sequence) (b .pan) (b .source) (b .synchronization) (b .timeslot) (length (a .says .timeslot .0)) (b .hopping) (b .slotframe) (b .joining) (opening .reading .sequence-is) (opening .reading .pan-is)
+            (opening .reading .source-is) (sync-value s _ (a .says .synchronization .0) (sync .1) _ _ (a .says .synchronization .2)) long
+            (timeslot-value s _ (a .says .timeslot .0) (b .timeslot) (a .says .timeslot .2) (time .1)) (sym (hop .1 .0)) (slotframe-value s _ (a .says .slotframe .0) (b .slotframe) (a .says .slotframe .2) (slot .1))
+            (joining-reads _ (a .says .joining) (n .joining)),
+      )
 
   reads : _≡_ {A = ReadAnswer} (record { number = 0; beacon = b }) (readFrame s)
   reads =
-      let x : _≡_ {A = Examination} (record { number = 0; walk = w }) (examined s) = examined-walk s 0 (opening .fine) w 0 refl walk-is (faultless w 0 good none-missing) in
-      read-done s (record { number = 0; walk = w }) x b refl decodes-it
+      let x : _≡_ {A = Examination} (record { number = 0; walk = w }) (examined s) = examined-walk s 0 (opening .fine) w 0 refl walk-is (faultless w 0 good (decodes-it .0)) in
+      read-done s (record { number = 0; walk = w }) x b refl (decodes-it .1)
 
 pub complete : Complete
 complete s b bytes a = sym (reads s b bytes a)
