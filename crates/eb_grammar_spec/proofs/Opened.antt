@@ -2,6 +2,7 @@
 use Prim.Native.Nat.{ℕ, zero, suc, _+_, _-_, _/_, _%_, _<_, _≤_}
 use mathlib.Core.Path.{_≡_, refl, sym, _∙_, ap, subst}
 use mathlib.Core.List.{List, [], _∷_, _++_, append-assoc}
+use native.Mathlib.Nat.{add-zero}
 use native.Mathlib.Omega.{arith}
 use borrow.Author.Tests.{eqb-true, eqb-false}
 use lib.Dec.{eqb}
@@ -26,7 +27,7 @@ use Rattle.eb_read_spec.proofs.PolicyLaws.{accepted}
 use Rattle.eb_grammar_spec.proofs.Stands.{Stands, stands-whole, stands-first, stands-rest}
 use Rattle.eb_grammar_spec.specs.Row.{le}
 use Rattle.eb_grammar_spec.specs.Grammar.{SequenceBytes, numbered, suppressed, SourceBytes, short-source, extended-source, FrameControl, FixedFields, fixed-fields}
-use Rattle.eb_grammar_spec.proofs.Slices.{part, part-at, part-cons, part-append, part-stands, length-part, le-stands, le-part}
+use Rattle.eb_grammar_spec.proofs.Slices.{part, part-at, part-stands, length-part, le-stands, le-part, part-element}
 
 -- frame control of the accepted form
 abbrev form : ℕ → ℕ → Control
@@ -153,25 +154,12 @@ module _ (s : List ℕ) (bytes : Bytes s) where
   -- the whole frame, field by field
   cut-up : (k m : ℕ) → 2 + k + 2 + 2 + m ≤ length s
       → s ≡ getD s 0 0 ∷ getD s 1 0 ∷ (part s 2 k ++ (getD s (2 + k) 0 ∷ getD s (2 + k + 1) 0 ∷ getD s (2 + k + 2) 0 ∷ getD s (2 + k + 2 + 1) 0 ∷ (part s (2 + k + 2 + 2) m ++ part s (2 + k + 2 + 2 + m) (length s - (2 + k + 2 + 2 + m)))))
+  unfolding part
   cut-up k m room =
-      let r : ℕ = length s - (2 + k + 2 + 2 + m) in
-      let e : length s ≡ suc (suc (k + suc (suc (suc (suc (m + r)))))) = omega arith in
-      let two : 2 + k + 1 + 1 ≡ 2 + k + 2 = omega arith in
-      let four : 2 + k + 2 + 1 + 1 ≡ 2 + k + 2 + 2 = omega arith in
+      let none : 2 + k + 2 + 0 ≡ 2 + k + 2 = add-zero (2 + k + 2) in
       part-stands s 0 s (stands-whole s s refl)
-      ∙ (part-at s 0 0 (length s) _ refl e
-      ∙ rw (
-        part-cons s 0 (suc (k + suc (suc (suc (suc (m + r)))))),
-        part-cons s 1 (k + suc (suc (suc (suc (m + r))))),
-        part-append s 2 k (suc (suc (suc (suc (m + r))))),
-        part-cons s (2 + k) (suc (suc (suc (m + r)))),
-        part-cons s (2 + k + 1) (suc (suc (m + r))),
-        two,
-        part-cons s (2 + k + 2) (suc (m + r)),
-        part-cons s (2 + k + 2 + 1) (m + r),
-        four,
-        part-append s (2 + k + 2 + 2) m r,
-      ))
+      ∙ (part-at s 0 0 (length s) (length s - 0) refl (omega arith)
+      ∙ (part-element s 0 k (length s) (omega arith) ∙ rw (part-element s (2 + k) 0 (length s) (omega arith), none, part-element s (2 + k + 2) m (length s) room)))
 
   sequence-some : (suppression : ℕ) → suppression < 2 → (k : ℕ) × (2 + k ≡ ifEq suppression 0 3 2) × SequenceBytes suppression (part s 2 k) (numberAt s suppression)
   unfolding part ifEq

@@ -1,6 +1,6 @@
 -- The bytes at a place as a list of their own: the bridge from places to a grammar and back. Assumes nothing.
 use Prim.Native.Nat.{ℕ, zero, suc, _+_, _-_, _≤_}
-use mathlib.Core.Path.{_≡_, refl, ap}
+use mathlib.Core.Path.{_≡_, refl, _∙_, ap}
 use mathlib.Core.List.{List, [], _∷_, _++_}
 use native.Mathlib.Omega.{arith}
 use lib.ListN.{length, getD}
@@ -43,16 +43,6 @@ module _ (s : List ℕ) where
   part-stands at [] h = refl
   part-stands at (x ∷ xs) h = rw (h .0, ← part-stands (suc at) xs (h .1))
 
-  pub le-stands : (at : ℕ) (xs : List ℕ) → Stands s at xs → le xs ≡ leAt (length xs) s at
-  unfolding le leAt Stands
-  le-stands at [] h = refl
-  le-stands at (x ∷ xs) h = let one : at + 1 ≡ suc at = omega arith in rw (leAt, one, h .0, le-stands (suc at) xs (h .1))
-
-  pub be-stands : (at : ℕ) (xs : List ℕ) → Stands s at xs → be xs ≡ beAt (length xs) s at
-  unfolding be beAt Stands
-  be-stands at [] h = refl
-  be-stands at (x ∷ xs) h = let one : at + 1 ≡ suc at = omega arith in rw (beAt, one, h .0, be-stands (suc at) xs (h .1))
-
   pub le-part : (n at : ℕ) → le (part s at n) ≡ leAt n s at
   unfolding part le leAt
   le-part zero at = refl
@@ -62,6 +52,12 @@ module _ (s : List ℕ) where
   unfolding part be beAt
   be-part zero at = refl
   be-part (suc n) at = let one : at + 1 ≡ suc at = omega arith in rw (beAt, one, be-part n (suc at), length-part (suc at) n)
+
+  pub le-stands : (at : ℕ) (xs : List ℕ) → Stands s at xs → le xs ≡ leAt (length xs) s at
+  le-stands at xs h = ap le (part-stands at xs h) ∙ le-part (length xs) at
+
+  pub be-stands : (at : ℕ) (xs : List ℕ) → Stands s at xs → be xs ≡ beAt (length xs) s at
+  be-stands at xs h = ap be (part-stands at xs h) ∙ be-part (length xs) at
 
   -- an element: its two descriptor bytes, its content, and what stands behind it
   pub part-element : (at size to : ℕ) → at + 2 + size ≤ to → part s at (to - at) ≡ getD s at 0 ∷ getD s (at + 1) 0 ∷ (part s (at + 2) size ++ part s (at + 2 + size) (to - (at + 2 + size)))
