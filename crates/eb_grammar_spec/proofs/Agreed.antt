@@ -35,7 +35,7 @@ use Rattle.eb_grammar_spec.proofs.CompleteLists.{Fine, Allowed, Allows,
 use Rattle.eb_grammar_spec.proofs.Synchronized.{sync-fine, sync-value, sync-says, hopping-some, hopping-fine}
 use Rattle.eb_grammar_spec.proofs.Timed.{timeslot-fine, timeslot-value, timeslot-says}
 use Rattle.eb_grammar_spec.proofs.Linked.{slotframe-fine, slotframe-value, slotframe-says}
-use Rattle.eb_grammar_spec.proofs.Joined.{single, no-entry, joining-says, joining-fine, joining-value-none, joining-value-one}
+use Rattle.eb_grammar_spec.proofs.Joined.{single, no-entry, joining-says, joining-fine, joining-value}
 use Rattle.eb_grammar_spec.proofs.Opened.{Opens, opens-of, OpeningSays, opening-says}
 
 -- ---- sound
@@ -57,15 +57,12 @@ module _ (s : List ℕ) (bytes : Bytes s) where
       (h, record { more = o .more; list = o .list; notes = o .notes })))
       (λ bad fine some. absurd (some refl))
 
-  record Examined (w : Walk) : Type 0 where
-    opens : macHeaderFault s ≡ 0
-    is : elementsWalk s (macHeaderOf s .elements) (macHeaderOf s .end) ≡ w
-    number : walkNumber w ≡ 0
-
-  examined-says : examined s .number ≡ 0 → Examined (examined s .walk)
+  -- an examination without a fault: the MAC header passes, and its walk is that of the elements
+  examined-says : examined s .number ≡ 0 → (macHeaderFault s ≡ 0) × (elementsWalk s (macHeaderOf s .elements) (macHeaderOf s .end) ≡ examined s .walk) × (walkNumber (examined s .walk) ≡ 0)
   unfolding examined
   examined-says =
-      each-eq (λ (x : Examination). x .number ≡ 0 → Examined (x .walk)) _ _ (macHeaderFault s) 0 (λ good e. record { opens = good; is = refl; number = e }) (λ bad e. absurd (bad e))
+      each-eq (λ (x : Examination). x .number ≡ 0 → (macHeaderFault s ≡ 0) × (elementsWalk s (macHeaderOf s .elements) (macHeaderOf s .end) ≡ x .walk) × (walkNumber (x .walk) ≡ 0)) _ _ (macHeaderFault s) 0
+      (λ good e. (good, refl, e)) (λ bad e. absurd (bad e))
 
   no-fault : (w : Walk) → walkNumber w ≡ 0 → w .fault ≡ 0
   unfolding walkNumber
@@ -118,10 +115,10 @@ sound s b bytes e =
     let number : readFrame s .number ≡ 0 = ap (λ (r : ReadAnswer). r .number) e in
     let x = examined-says s bytes (sym (number-of s) ∙ number) in
     let required = accepted-required s number in
-    let opening = opening-says s bytes (x .opens) in
+    let opening = opening-says s bytes (x .0) in
     let w : Walk = examined s .walk in
     let there : Found-in s bytes (macHeaderOf s .elements) w =
-    subst (λ (v : Walk). v .fault ≡ 0 → (v .synchronization ≡ 0 → ⊥) → Found-in s bytes (macHeaderOf s .elements) v) (ap (λ (end : ℕ). elementsWalk s (macHeaderOf s .elements) end) (opening .1 .ends) ∙ x .is) (elements-sound s bytes (macHeaderOf s .elements)) (no-fault s bytes w (x .number)) (required .synchronization) in
+    subst (λ (v : Walk). v .fault ≡ 0 → (v .synchronization ≡ 0 → ⊥) → Found-in s bytes (macHeaderOf s .elements) v) (ap (λ (end : ℕ). elementsWalk s (macHeaderOf s .elements) end) (opening .1 .ends) ∙ x .1) (elements-sound s bytes (macHeaderOf s .elements)) (no-fault s bytes w (x .2)) (required .synchronization) in
     subst (λ (r : Beacon). Accepts s r) (accepted-decoded s number ∙ ap (λ (r : ReadAnswer). r .beacon) e) (accepts s bytes w (opening .0) (opening .1) there required)
 
 -- ---- complete
@@ -179,10 +176,6 @@ module _ (s : List ℕ) (b : Beacon) (bytes : Bytes s) (a : Accepts s b) where
       let same : one .content ≡ c = single (one .content) c [] [] (sym (one .only) ∙ only) .1 in
       (one .some, rw same at (one .stands), rw same at (one .ends))
 
-  joining-reads : (cs : List (List ℕ)) → JoiningContent cs (b .joining) → Kept s 258 (w .joining) (w .joiningend) cs → b .joining ≡ joiningAt s (w .joining) (w .joiningend)
-  joining-reads cs says (inl none) = joining-value-none s bytes cs (b .joining) says (none .1) _ _ (none .0)
-  joining-reads cs says (inr one) = joining-value-one s bytes cs (b .joining) says (one .content) (one .only) _ _ (one .some) (one .ends) (one .stands)
-
   -- so none is missing, and what is noted decodes to the record
   decodes-it : (0 ≡ missing w) × (b ≡ decoded s w)
   unfolding missing Stands
@@ -197,7 +190,7 @@ module _ (s : List ℕ) (b : Beacon) (bytes : Bytes s) (a : Accepts s b) where
         decodes s w (b .sequence) (b .pan) (b .source) (b .synchronization) (b .timeslot) (length (a .says .timeslot .0)) (b .hopping) (b .slotframe) (b .joining) (opening .reading .sequence-is) (opening .reading .pan-is)
             (opening .reading .source-is) (sync-value s _ (a .says .synchronization .0) (sync .1) _ _ (a .says .synchronization .2)) long
             (timeslot-value s _ (a .says .timeslot .0) (b .timeslot) (a .says .timeslot .2) (time .1)) (sym (hop .1 .0)) (slotframe-value s _ (a .says .slotframe .0) (b .slotframe) (a .says .slotframe .2) (slot .1))
-            (joining-reads _ (a .says .joining) (n .joining)),
+            (joining-value s bytes _ (b .joining) (a .says .joining) _ _ (n .joining)),
       )
 
   reads : _≡_ {A = ReadAnswer} (record { number = 0; beacon = b }) (readFrame s)

@@ -23,7 +23,7 @@ use Rattle.ie_walk_spec.proofs.ListLaws.{HeaderLeads, header-payload, header-tu
 use Rattle.eb_grammar_spec.proofs.Stands.{Stands, stands-first, stands-rest, stands-at}
 use Rattle.eb_grammar_spec.specs.Grammar.{Descriptor, Element, contents, SubDescriptor, SubElements, group-end, sub-element, PayloadElements, bytes-end, payload-end, payload-element, mlme, ietf-element, other-group, HeaderElements, header-end, header-element}
 use Rattle.eb_grammar_spec.proofs.StepsOf.{sub-step, group-step, payload-end-step, payload-step, header-step}
-use Rattle.eb_grammar_spec.proofs.Notes.{unseen, splits, Kept, Notes, contents-append, notes-skip, notes-other, notes-taken}
+use Rattle.eb_grammar_spec.proofs.Notes.{unseen, splits, Kept, Notes, contents-here, notes-skip, notes-other, notes-taken}
 
 -- an element without a fault is taken
 takes : (s : List ℕ) (w : Walk) (kind from to at : ℕ) → 0 ≡ partFault s kind from to (seenOf w) → taken w kind from to ≡ partTaken s w kind from to at
@@ -53,14 +53,10 @@ module _ (s : List ℕ) where
     abbrev all : List Element
     all = before ++ (record { kind = kind; content = c } ∷ after)
 
-    contents-here : (k : ℕ) → kind ≡ k → contents k all ≡ contents k before ++ (c ∷ contents k after)
-    unfolding contents
-    contents-here k e = contents-append k before _ ∙ ap (λ (cs : List (List ℕ)). contents k before ++ cs) (sym (if-eq _ _ _ _ e refl))
-
     fresh : (k p e : ℕ) → Kept s k p e (contents k before) → Allowed k all → kind ≡ k → (p ≡ 0) × Fine k c
-    fresh k p e (inl none) allowed is = (none .0, allowed c (contents k before) _ (contents-here k is) .1)
+    fresh k p e (inl none) allowed is = (none .0, allowed c (contents k before) _ (contents-here before after _ k is) .1)
     fresh k p e (inr one) allowed is =
-        let none : contents k before ≡ [] = allowed c (contents k before) _ (contents-here k is) .0 in
+        let none : contents k before ≡ [] = allowed c (contents k before) _ (contents-here before after _ k is) .0 in
         let zero-one : _≡_ {A = ℕ} 0 1 = ap length (sym none ∙ one .only) in
         absurd (omega arith)
 

@@ -9,8 +9,7 @@ use native.Mathlib.Nat.{mod-lt, div-div-eq-div-mul, dvd-mul-right, mod-mod-of-dv
 use native.Mathlib.Omega.{arith}
 use lib.Arith.{digits-div, mod-mul}
 use lib.Dec.{T, lit<, ltb}
-use lib.ListN.{length, getD, length-append}
-use Rattle.octets_spec.proofs.ChoiceLaws.{if-eq, if-ne}
+use lib.ListN.{length, length-append}
 use Rattle.mac_header_spec.specs.declared.SequenceNumber.{SequenceNumber}
 use Rattle.mac_header_spec.specs.declared.Address.{Address}
 use Rattle.eb_record_spec.specs.declared.TimeslotTemplate.{TimeslotTemplate}
@@ -20,9 +19,9 @@ use Rattle.eb_grammar_spec.specs.Row.{le, be, bits}
 use Rattle.eb_grammar_spec.specs.Grammar.{FrameControl, FixedFields, fixed-fields, Descriptor, HeaderElements, Element, SubElements, group-end, sub-element, mlme, ietf-element, PayloadElements, bytes-end, payload-end, payload-element, TimeslotContent, timed-25, timed-27, JoiningContent, absent, joining, contents, Once, Says, Accepts}
 use Rattle.eb_grammar_spec.specs.Follows.{Known, SameKnown, Before, OneElement, one-element, one-sub-element, IgnoredBitsDoNotCount, HeaderElementsDoNotCount, NothingCountsBehind7F, KnownContentsCount, BytesBehindGroup15DoNotCount, UnknownElementsDoNotCount, UnknownSubElementsDoNotCount, OrderDoesNotCount, ReservedJoiningBitsDoNotCount, BothTimingFormsSayTheSame}
 use Rattle.eb_grammar_spec.proofs.Stands.{stands-whole}
-use Rattle.eb_grammar_spec.proofs.Notes.{contents-append}
+use Rattle.eb_grammar_spec.proofs.Notes.{contents-append, contents-here, contents-other}
 use Rattle.eb_grammar_spec.proofs.Timed.{timeslot-value}
-use Rattle.eb_grammar_spec.proofs.Joined.{no-entry}
+use Rattle.eb_grammar_spec.proofs.Joined.{single, no-entry}
 use Rattle.eb_grammar_spec.proofs.Unique.{split, heads, fields-same, header-same, payload-same}
 
 -- ---- bits that lie within others: c values from a on, of c * d * a values from u on
@@ -78,9 +77,6 @@ ignored-bits-do-not-count low other high rest b small small′ four six a =
 ends-126 : (_≡_ {A = ℕ} 126 126 → ⊥) → (_≡_ {A = ℕ} 126 127 → ⊥) → ⊥
 ends-126 n m = n refl
 
-ends-127 : (_≡_ {A = ℕ} 127 126 → ⊥) → (_≡_ {A = ℕ} 127 127 → ⊥) → ⊥
-ends-127 n m = m refl
-
 module _ (fields header : List ℕ) (sequence : SequenceNumber) (pan : ℕ) (source : Address) (opens : FixedFields fields sequence pan source) (skips : HeaderElements header) where
   -- where the fields and the header elements of an accepted frame end
   pub front-same : (low high n i : ℕ) (rest : List ℕ) → Descriptor 7 low high n i 0 → ((i ≡ 126 → ⊥) → (i ≡ 127 → ⊥) → ⊥) → (s : List ℕ) (b : Beacon) (a : Accepts s b) → s ≡ fields ++ (header ++ (low ∷ high ∷ rest))
@@ -92,7 +88,7 @@ module _ (fields header : List ℕ) (sequence : SequenceNumber) (pan : ℕ) (sou
 
 pub nothing-counts-behind-7f : NothingCountsBehind7F
 nothing-counts-behind-7f fields header rest low high size pan sequence source b opens skips d a =
-    let same = heads (front-same fields header sequence pan source opens skips low high size 127 rest d ends-127 _ b a refl .2) in
+    let same = heads (front-same fields header sequence pan source opens skips low high size 127 rest d (λ n m. m refl) _ b a refl .2) in
     let is = rw (same .0, same .1) at (d .parts) in
     omega (arith, is, a .follows .parts, d .length-fits)
 
@@ -228,27 +224,23 @@ order-does-not-count before one two three four rest group other u v w x found b 
     ∙ sym (contents-of k (p .found) u w v x found))) says) short
 
 -- ---- the content of one element
-only-one : {A : Type 0} (x c d : A) (before after : List A) → before ++ (c ∷ after) ≡ x ∷ [] → (c ≡ x) × (before ++ (d ∷ after) ≡ d ∷ [])
-only-one x c d [] [] e = (ap (λ (l : List _). getD l 0 x) e, refl)
-only-one x c d [] (y ∷ after) e = let longer : _≡_ {A = ℕ} (2 + length after) 1 = omega arith ∙ ap length e in absurd (omega (arith, longer))
-only-one x c d (y ∷ before) after e = let longer : _≡_ {A = ℕ} (suc (length (before ++ (c ∷ after)))) 1 = ap length e in absurd (omega (arith, longer, length-append before (c ∷ after)))
+only-one : {A : Type 0} (x c d : A) (before after : List A) → x ∷ [] ≡ before ++ (c ∷ after) → (x ≡ c) × (before ++ (d ∷ after) ≡ d ∷ [])
+only-one x c d before after e = let one = single x c before after e in (one .1, rw (one .0, one .2))
 
 module _ (h f : List Element) (kind : ℕ) where
   here : (c : List ℕ) → contents kind (h ++ (record { kind = kind; content = c } ∷ f)) ≡ contents kind h ++ (c ∷ contents kind f)
-  unfolding contents
-  here c = contents-append kind h _ ∙ ap (λ (cs : List (List ℕ)). contents kind h ++ cs) (sym (if-eq _ _ kind kind refl refl))
+  here c = contents-here h f _ kind refl
 
   elsewhere : (c d : List ℕ) (k : ℕ) → (kind ≡ k → ⊥) → contents k (h ++ (record { kind = kind; content = c } ∷ f)) ≡ contents k (h ++ (record { kind = kind; content = d } ∷ f))
-  unfolding contents
-  elsewhere c d k n = contents-append k h _ ∙ (ap (λ (cs : List (List ℕ)). contents k h ++ cs) (sym (if-ne _ _ kind k n refl) ∙ if-ne _ _ kind k n refl) ∙ sym (contents-append k h _))
+  elsewhere c d k n = contents-other h f _ k n ∙ sym (contents-other h f _ k n)
 
 -- ---- joining information's reserved bits
 module _ (word other content : List ℕ) (four : length word ≡ 4) (four′ : length other ≡ 4) (top : bits 30 2 (be word) ≡ bits 30 2 (be other)) (low : bits 0 27 (be word) ≡ bits 0 27 (be other)) where
   joining-changed : (cs : List (List ℕ)) (j : JoiningInformation) → JoiningContent cs j → (before after : List (List ℕ)) → cs ≡ before ++ ((word ++ content) ∷ after) → JoiningContent (before ++ ((other ++ content) ∷ after)) j
   joining-changed _ _ absent before after e = absurd (no-entry _ before after e)
   joining-changed _ _ (joining w address network w-four eight few) before after e =
-      let one = only-one (w ++ (address ++ network)) (word ++ content) (other ++ content) before after (sym e) in
-      let cut = split w word (address ++ network) content (sym (one .0)) (w-four ∙ sym four) in
+      let one = only-one (w ++ (address ++ network)) (word ++ content) (other ++ content) before after e in
+      let cut = split w word (address ++ network) content (one .0) (w-four ∙ sym four) in
       let p : bits 30 1 (be word) ≡ bits 30 1 (be other) = within 1073741824 1 2 2 _ _ tt tt top in
       let r : bits 31 1 (be word) ≡ bits 31 1 (be other) = within 1073741824 2 2 1 _ _ tt tt top in
       let proxy : bits 20 7 (be word) ≡ bits 20 7 (be other) = within 1 1048576 128 1 _ _ tt tt low in
@@ -275,8 +267,8 @@ timings-changed h f c d u b was is =
     let same = elsewhere h f 28 c d in
     says-but _ _ b (λ k known not-28 not-258. same k not-28)
     (λ t.
-    let one = only-one (t .0) c d (contents 28 h) (contents 28 f) (sym (here h f 28 c) ∙ t .1) in
-    (d, here h f 28 d ∙ one .1, subst (λ t. TimeslotContent d t) (other-timings c u (b .timeslot) was (rw (one .0) (t .2))) is))
+    let one = only-one (t .0) c d (contents 28 h) (contents 28 f) (sym (t .1) ∙ here h f 28 c) in
+    (d, here h f 28 d ∙ one .1, subst (λ t. TimeslotContent d t) (other-timings c u (b .timeslot) was (rw (← one .0) (t .2))) is))
     (λ j. rw (← same 258 (λ z. omega arith)) j)
 
 regroup : (h u : List Element) (x : Element) (v f : List Element) → h ++ ((u ++ (x ∷ v)) ++ f) ≡ (h ++ u) ++ (x ∷ (v ++ f))

@@ -9,7 +9,7 @@ use lib.Dec.{eqb}
 use lib.ListN.{length, getD}
 use borrow.Author.Tests.{eqb-true}
 use Rattle.octets_spec.specs.Choice.{ifEq}
-use Rattle.octets_spec.proofs.ChoiceLaws.{if-ne, by-test, was-eq, was-ne, was-ge, was-off}
+use Rattle.octets_spec.proofs.ChoiceLaws.{if-eq, if-ne, by-test, was-eq, was-ne, was-ge, was-off}
 use Rattle.refusal.specs.Refusal.{missingOrTwice}
 use Rattle.ie_verdict_spec.specs.Verdict.{onceOnly, syncFault, timeslotFault, hoppingFault, slotframeFault, slotframeFaultAt, joiningFault, partFault}
 use Rattle.ie_verdict_spec.specs.declared.Seen.{Seen}
@@ -26,6 +26,14 @@ pub contents-append : (kind : ℕ) (xs ys : List Element) → contents kind (xs 
 unfolding contents ifEq
 contents-append kind [] ys = refl
 contents-append kind (x ∷ xs) ys = by-test (eqb (x .kind) kind) (λ t. rw (t, contents-append kind xs ys)) (λ t. rw (t, contents-append kind xs ys))
+
+pub contents-here : (h f : List Element) (x : Element) (k : ℕ) → x .kind ≡ k → contents k (h ++ (x ∷ f)) ≡ contents k h ++ (x .content ∷ contents k f)
+unfolding contents
+contents-here h f x k e = contents-append k h (x ∷ f) ∙ ap (λ (cs : List (List ℕ)). contents k h ++ cs) (sym (if-eq _ _ _ _ e refl))
+
+pub contents-other : (h f : List Element) (x : Element) (k : ℕ) → (x .kind ≡ k → ⊥) → contents k (h ++ (x ∷ f)) ≡ contents k h ++ contents k f
+unfolding contents
+contents-other h f x k n = contents-append k h (x ∷ f) ∙ ap (λ (cs : List (List ℕ)). contents k h ++ cs) (sym (if-ne _ _ _ _ n refl))
 
 -- ---- no element of a kind was taken before
 abbrev pub unseen : Seen
@@ -117,19 +125,17 @@ unfolding skipOne
 notes-skip s w found n = n
 
 -- an element of another kind changes nothing
-contents-other : (k : ℕ) (found : List Element) (x : Element) → (x .kind ≡ k → ⊥) → contents k (found ++ (x ∷ [])) ≡ contents k found
-unfolding contents
-contents-other k found x n =
-    contents-append k found (x ∷ []) ∙ (ap (λ (cs : List (List ℕ)). contents k found ++ cs) (sym (if-ne _ _ _ _ n refl)) ∙ append-nil (contents k found))
-
 pub notes-other : (s : List ℕ) (w : Walk) (found : List Element) (x : Element) → (x .kind ≡ 258 → ⊥) → 256 ≤ x .kind → Notes s w found → Notes s w (found ++ (x ∷ []))
-notes-other s w found x n high k = record {
-  synchronization = rw (contents-other 26 found x (λ (z : x .kind ≡ 26). omega arith)) (k .synchronization);
-  timeslot = rw (contents-other 28 found x (λ (z : x .kind ≡ 28). omega arith)) (k .timeslot);
-  hopping = rw (contents-other 137 found x (λ (z : x .kind ≡ 137). omega arith)) (k .hopping);
-  slotframe = rw (contents-other 27 found x (λ (z : x .kind ≡ 27). omega arith)) (k .slotframe);
-  joining = rw (contents-other 258 found x n) (k .joining);
-}
+unfolding contents
+notes-other s w found x n high k =
+    let same : (k : ℕ) → (x .kind ≡ k → ⊥) → contents k (found ++ (x ∷ [])) ≡ contents k found = λ k n. contents-other found [] x k n ∙ append-nil (contents k found) in
+    record {
+      synchronization = rw (same 26 (λ z. omega arith)) (k .synchronization);
+      timeslot = rw (same 28 (λ z. omega arith)) (k .timeslot);
+      hopping = rw (same 137 (λ z. omega arith)) (k .hopping);
+      slotframe = rw (same 27 (λ z. omega arith)) (k .slotframe);
+      joining = rw (same 258 n) (k .joining);
+    }
 
 -- an element that was taken is noted
 module _ (s : List ℕ) (found : List Element) (kind from : ℕ) (c : List ℕ) (some : from ≡ 0 → ⊥) (stands : Stands s from c) where
