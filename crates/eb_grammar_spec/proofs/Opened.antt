@@ -2,7 +2,6 @@
 use Prim.Native.Nat.{ℕ, zero, suc, _+_, _-_, _/_, _%_, _<_, _≤_}
 use mathlib.Core.Path.{_≡_, refl, sym, _∙_, ap, subst}
 use mathlib.Core.List.{List, [], _∷_, _++_, append-assoc}
-use native.Mathlib.Nat.{add-zero}
 use native.Mathlib.Omega.{arith}
 use borrow.Author.Tests.{eqb-true, eqb-false}
 use lib.Dec.{eqb}
@@ -156,10 +155,9 @@ module _ (s : List ℕ) (bytes : Bytes s) where
       → s ≡ getD s 0 0 ∷ getD s 1 0 ∷ (part s 2 k ++ (getD s (2 + k) 0 ∷ getD s (2 + k + 1) 0 ∷ getD s (2 + k + 2) 0 ∷ getD s (2 + k + 2 + 1) 0 ∷ (part s (2 + k + 2 + 2) m ++ part s (2 + k + 2 + 2 + m) (length s - (2 + k + 2 + 2 + m)))))
   unfolding part
   cut-up k m room =
-      let none : 2 + k + 2 + 0 ≡ 2 + k + 2 = add-zero (2 + k + 2) in
       part-stands s 0 s (stands-whole s s refl)
       ∙ (part-at s 0 0 (length s) (length s - 0) refl (omega arith)
-      ∙ (part-element s 0 k (length s) (omega arith) ∙ rw (part-element s (2 + k) 0 (length s) (omega arith), none, part-element s (2 + k + 2) m (length s) room)))
+      ∙ (part-element s 0 k (2 + k) (length s) refl (omega arith) ∙ rw (part-element s (2 + k) 0 (2 + k + 2) (length s) (omega arith) (omega arith), part-element s (2 + k + 2) m (2 + k + 2 + 2 + m) (length s) refl room)))
 
   sequence-some : (suppression : ℕ) → suppression < 2 → (k : ℕ) × (2 + k ≡ ifEq suppression 0 3 2) × SequenceBytes suppression (part s 2 k) (numberAt s suppression)
   unfolding part ifEq

@@ -60,10 +60,10 @@ module _ (s : List ℕ) where
   be-stands at xs h = ap be (part-stands at xs h) ∙ be-part (length xs) at
 
   -- an element: its two descriptor bytes, its content, and what stands behind it
-  pub part-element : (at size to : ℕ) → at + 2 + size ≤ to → part s at (to - at) ≡ getD s at 0 ∷ getD s (at + 1) 0 ∷ (part s (at + 2) size ++ part s (at + 2 + size) (to - (at + 2 + size)))
+  pub part-element : (at size to end : ℕ) → to ≡ at + 2 + size → to ≤ end → part s at (end - at) ≡ getD s at 0 ∷ getD s (at + 1) 0 ∷ (part s (at + 2) size ++ part s to (end - to))
   unfolding part
-  part-element at size to h =
-      let e : to - at ≡ suc (suc (size + (to - (at + 2 + size)))) = omega arith in
+  part-element at size to end is h =
+      let e : end - at ≡ suc (suc (size + (end - to))) = omega arith in
       let one : suc at ≡ at + 1 = omega arith in
       let two : suc (at + 1) ≡ at + 2 = omega arith in
-      rw (e, part, one, two) (ap (λ (xs : List ℕ). getD s at 0 ∷ getD s (at + 1) 0 ∷ xs) (part-append (at + 2) size _))
+      rw (e, part, one, two) (ap (λ (xs : List ℕ). getD s at 0 ∷ getD s (at + 1) 0 ∷ xs) (rw (← is) at (part-append (at + 2) size (end - to))))
