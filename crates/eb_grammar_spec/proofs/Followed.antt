@@ -22,7 +22,7 @@ use Rattle.eb_grammar_spec.proofs.Stands.{stands-whole}
 use Rattle.eb_grammar_spec.proofs.Notes.{contents-append, contents-here, contents-other}
 use Rattle.eb_grammar_spec.proofs.Timed.{timeslot-value}
 use Rattle.eb_grammar_spec.proofs.Joined.{single, no-entry}
-use Rattle.eb_grammar_spec.proofs.Unique.{split, heads, fields-same, header-same, payload-same}
+use Rattle.eb_grammar_spec.proofs.Unique.{split, heads, fields-same, header-same, payload-same, accepts}
 
 -- ---- bits that lie within others: c values from a on, of c * d * a values from u on
 within : (u a c d v w : ℕ) → T (ltb 0 a) → T (ltb 0 (c * d)) → v / u % (c * d * a) ≡ w / u % (c * d * a) → v / (u * a) % c ≡ w / (u * a) % c
@@ -62,12 +62,6 @@ module _ (low other : ℕ) (small : low < 256) (small′ : other < 256) (four : 
       let head = heads e in
       let d : FrameControl (le (other ∷ h ∷ [])) suppression mode = rw (head .1) at (other-bits suppression mode (rw (head .0, head .1) c)) in
       (other ∷ h ∷ (sequence ++ (p ∷ q ∷ 255 ∷ 255 ∷ source)), fixed-fields other h p q d q-says s-says, rw (head .1, head .2))
-
--- a frame is accepted by its parts
-accepts : {s fields header payload : List ℕ} {low high : ℕ} {found : List Element} {b : Beacon} → length s ≤ 125 → s ≡ fields ++ (header ++ (low ∷ high ∷ payload)) → FixedFields fields (b .sequence) (b .pan) (b .source)
-    → HeaderElements header → Descriptor 7 low high 0 126 0 → PayloadElements payload found → Says found b → Accepts s b
-accepts short stands opens skips follows lists says =
-    record { fields = _; header = _; low = _; high = _; payload = _; found = _; at-most-125 = short; stands = stands; opens = opens; skips = skips; follows = follows; lists = lists; says = says }
 
 pub ignored-bits-do-not-count : IgnoredBitsDoNotCount
 ignored-bits-do-not-count low other high rest b small small′ four six a =

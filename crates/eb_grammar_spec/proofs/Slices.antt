@@ -1,12 +1,15 @@
 -- The bytes at a place as a list of their own: the bridge from places to a grammar and back. Assumes nothing.
-use Prim.Native.Nat.{ℕ, zero, suc, _+_, _-_, _≤_}
+use Prim.Native.Nat.{ℕ, zero, suc, _+_, _-_, _*_, _/_, _%_, _^_, _≤_}
 use mathlib.Core.Path.{_≡_, refl, _∙_, ap}
 use mathlib.Core.List.{List, [], _∷_, _++_}
+use native.Mathlib.Nat.{mul-comm, mul-assoc, add-mul, div-div-eq-div-mul}
 use native.Mathlib.Omega.{arith}
+use lib.Arith.{digits-div, digits-mod}
 use lib.ListN.{length, getD}
 use Rattle.octets_spec.specs.Number.{leAt, beAt}
 use Rattle.eb_grammar_spec.proofs.Stands.{Stands}
 use Rattle.eb_grammar_spec.specs.Row.{le, be}
+use Rattle.eb_grammar_spec.specs.Grammar.{Descriptor}
 
 unfoldable pub part : List ℕ → ℕ → ℕ → List ℕ
 part s at zero = []
@@ -67,3 +70,14 @@ module _ (s : List ℕ) where
       let one : suc at ≡ at + 1 = omega arith in
       let two : suc (at + 1) ≡ at + 2 = omega arith in
       rw (e, part, one, two) (ap (λ (xs : List ℕ). getD s at 0 ∷ getD s (at + 1) 0 ∷ xs) (rw (← is) at (part-append (at + 2) size (end - to))))
+
+-- ---- the two bytes of a descriptor, taken apart: a length, an ID, bit 15
+pub described : {split low high size id top : ℕ} → Descriptor split low high size id top → 2 ^ split * 2 ^ (15 - split) ≡ 32768
+    → (le (low ∷ high ∷ []) % 2 ^ split ≡ size) × (le (low ∷ high ∷ []) / 2 ^ split % 2 ^ (15 - split) ≡ id) × (le (low ∷ high ∷ []) / 32768 ≡ top)
+described {split} {low} {high} {size} {id} {top} d whole =
+    let p : ℕ = 2 ^ split in
+    let q : ℕ = 2 ^ (15 - split) in
+    let digits : 32768 * top ≡ top * q * p = rw (← whole, mul-comm p q, mul-comm (q * p) top, mul-assoc top q p) in
+    let is : le (low ∷ high ∷ []) ≡ (top * q + id) * p + size = d .parts ∙ omega (arith, digits, add-mul (top * q) id p, mul-comm id p) in
+    let above : le (low ∷ high ∷ []) / p ≡ top * q + id = rw is (digits-div (top * q + id) (d .length-fits)) in
+    (rw is (digits-mod (top * q + id) (d .length-fits)), rw above (digits-mod top (d .id-fits)), rw (← whole, ← div-div-eq-div-mul, above) (digits-div top (d .id-fits)))
