@@ -155,8 +155,8 @@ pub unknown-elements-do-not-count : UnknownElementsDoNotCount
 unknown-elements-do-not-count before content _ rest group inside found b p (one-element low high d) not-15 holds none list short =
     let with : PayloadElements (low ∷ high ∷ (content ++ rest)) (inside ++ found) = payload-element low high group content d not-15 holds list in
     let less : length (before ++ rest) ≤ 125 = omega (arith, short, length-append before rest, length-append before (low ∷ high ∷ (content ++ rest)), length-append content rest) in (
-      replaced before p _ _ _ _ b list with (says-same _ _ b (behind-same (p .found) _ _ (λ k known. sym (before-same inside [] found none k known)))) short,
-      replaced before p _ _ _ _ b with list (says-same _ _ b (behind-same (p .found) _ _ (before-same inside [] found none))) less,
+      known-contents-count before _ _ _ _ b p list with (λ k known. sym (before-same inside [] found none k known)) short,
+      known-contents-count before _ _ _ _ b p with list (before-same inside [] found none) less,
     )
 
 -- ---- groups
@@ -171,10 +171,9 @@ pub unknown-sub-elements-do-not-count : UnknownSubElementsDoNotCount
 unknown-sub-elements-do-not-count before one unknown two rest group wider in-one in-unknown in-two found b p narrow wide ones unknowns twos none list short short′ =
     let without = group-list _ group rest _ found narrow (subs-append one two in-one in-two ones twos) list in
     let with = group-list _ wider rest _ found wide (subs-append one (unknown ++ two) in-one (in-unknown ++ in-two) ones (subs-append unknown two in-unknown in-two unknowns twos)) list in
-    let same : SameKnown (p .found ++ ((in-one ++ (in-unknown ++ in-two)) ++ found)) (p .found ++ ((in-one ++ in-two) ++ found)) =
-    behind-same (p .found) _ _ (before-same _ _ found (behind-same in-one _ _ (before-same in-unknown [] in-two none))) in (
-      replaced before p _ _ _ _ b without with (says-same _ _ b (λ k known. sym (same k known))) short′,
-      replaced before p _ _ _ _ b with without (says-same _ _ b same) short,
+    let same = before-same (in-one ++ (in-unknown ++ in-two)) (in-one ++ in-two) found (behind-same in-one (in-unknown ++ in-two) in-two (before-same in-unknown [] in-two none)) in (
+      known-contents-count before _ _ _ _ b p without with (λ k known. sym (same k known)) short′,
+      known-contents-count before _ _ _ _ b p with without same short,
     )
 
 -- ---- the order
@@ -202,20 +201,13 @@ module _ {A : Type 0} where
       let same : v ++ (w ++ x) ≡ w ++ (v ++ x) = sym (append-assoc v w x) ∙ (ap (λ (l : List A). l ++ x) (swap v w short) ∙ append-assoc w v x) in
       rw same
 
-contents-of : (k : ℕ) (a u v w x y : List Element) → contents k (a ++ ((u ++ (v ++ (w ++ x))) ++ y)) ≡ contents k a ++ ((contents k u ++ (contents k v ++ (contents k w ++ contents k x))) ++ contents k y)
-contents-of k a u v w x y =
-    rw (contents-append k a ((u ++ (v ++ (w ++ x))) ++ y), contents-append k (u ++ (v ++ (w ++ x))) y, contents-append k u (v ++ (w ++ x)), contents-append k v (w ++ x), contents-append k w x)
-
 pub order-does-not-count : OrderDoesNotCount
 order-does-not-count before one two three four rest group other u v w x found b p first second ones twos threes fours list short =
     let list₁ = group-list _ group rest _ found first (subs-append one _ u _ ones (subs-append two _ v _ twos (subs-append three four w x threes fours))) list in
     let list₂ = group-list _ other rest _ found second (subs-append one _ u _ ones (subs-append three _ w _ threes (subs-append two four v x twos fours))) list in
     replaced before p _ _ _ _ b list₁ list₂
-    (λ says.
-    says-same _ _ b (λ k known.
-    contents-of k (p .found) u v w x found
-    ∙ (swap-inside (contents k (p .found)) (contents k u) (contents k v) (contents k w) (contents k x) (contents k found) (rw (contents-of k (p .found) u v w x found) at (says-few _ b says k known))
-    ∙ sym (contents-of k (p .found) u w v x found))) says) short
+    (λ says. says-same _ _ b
+    (λ k known. simp contents-append (swap-inside (contents k (p .found)) (contents k u) (contents k v) (contents k w) (contents k x) (contents k found) (simp contents-append at (says-few _ b says k known)))) says) short
 
 -- ---- the content of one element
 only-one : {A : Type 0} (x c d : A) (before after : List A) → x ∷ [] ≡ before ++ (c ∷ after) → (x ≡ c) × (before ++ (d ∷ after) ≡ d ∷ [])
