@@ -127,17 +127,15 @@ module _ (s : List ℕ) (bytes : Bytes s) (at : ℕ) where
       rw is (subst (λ j. JoiningContent ((word ++ (address ++ network)) ∷ []) j) (joins-value word address network four eight few (rw is at h) some) (joining word address network four eight few))
 
 -- ---- a list with one entry
-pub single : {A : Type 0} (x c : A) (before after : List A) → x ∷ [] ≡ before ++ (c ∷ after) → (before ≡ []) × (x ≡ c) × (after ≡ [])
-single x c [] [] e = (refl, ap (λ l. getD l 0 x) e, refl)
-single x c [] (y ∷ after) e = let longer : _≡_ {A = ℕ} 1 (2 + length after) = ap length e ∙ omega arith in absurd (omega (arith, longer))
-single x c (y ∷ before) after e =
-    let longer : _≡_ {A = ℕ} 1 (suc (length (before ++ (c ∷ after)))) = ap length e in
-    absurd (omega (arith, longer, length-append before (c ∷ after)))
-
 pub no-entry : {A : Type 0} (c : A) (before after : List A) → [] ≡ before ++ (c ∷ after) → ⊥
 no-entry c before after e =
     let longer : _≡_ {A = ℕ} 0 (length (before ++ (c ∷ after))) = ap length e in
     omega (arith, longer, length-append before (c ∷ after))
+
+pub single : {A : Type 0} (x c : A) (before after : List A) → x ∷ [] ≡ before ++ (c ∷ after) → (before ≡ []) × (x ≡ c) × (after ≡ [])
+single x c [] [] e = (refl, cc, refl)
+single x c [] (y ∷ after) e = absurd (no-entry y [] after (cc))
+single x c (y ∷ before) after e = absurd (no-entry c before after (cc))
 
 module _ (s : List ℕ) (bytes : Bytes s) where
   pub joining-fine : (cs : List (List ℕ)) (j : JoiningInformation) → JoiningContent cs j → (c : List ℕ) (before after : List (List ℕ)) → cs ≡ before ++ (c ∷ after)

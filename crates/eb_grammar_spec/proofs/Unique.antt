@@ -86,19 +86,14 @@ subs-same _ _ _ _ (sub-element a b k c {rest} {found} d more) (sub-element a′ 
     let cut = split c c′ rest rest′ (head .2) (same .0) in
     rw (same .1, cut .0, subs-same rest rest′ found found′ more more′ (cut .1))
 
-group-same : (n m : ℕ) (c d : List ℕ) (f g : List Element) → Group n c f → Group m d g → n ≡ m → c ≡ d → f ≡ g
-group-same _ _ _ _ _ _ (mlme one) (mlme other) e same = subs-same _ _ _ _ one other same
-group-same _ _ _ _ _ _ (mlme one) (ietf-element subtype content) e same = absurd (omega (arith, e))
-group-same _ _ _ _ _ _ (mlme one) (other-group not-1 not-5) e same = absurd (not-1 (sym e))
-group-same _ _ _ _ _ _ (ietf-element subtype content) (mlme other) e same = absurd (omega (arith, e))
-group-same _ _ _ _ _ _ (ietf-element subtype content) (ietf-element subtype′ content′) e same =
-    let first : subtype ≡ subtype′ = ap (λ (l : List ℕ). getD l 0 0) same in
-    let rest : content ≡ content′ = ap (λ (l : List ℕ). drop 1 l) same in
-    rw (first, rest)
-group-same _ _ _ _ _ _ (ietf-element subtype content) (other-group not-1 not-5) e same = absurd (not-5 (sym e))
-group-same _ _ _ _ _ _ (other-group not-1 not-5) (mlme other) e same = absurd (not-1 e)
-group-same _ _ _ _ _ _ (other-group not-1 not-5) (ietf-element subtype content) e same = absurd (not-5 e)
-group-same _ _ _ _ _ _ (other-group not-1 not-5) (other-group not-1′ not-5′) e same = refl
+group-same : (n : ℕ) (c d : List ℕ) (f g : List Element) → Group n c f → Group n d g → c ≡ d → f ≡ g
+group-same _ _ _ _ _ (mlme one) (mlme other) same = subs-same _ _ _ _ one other same
+group-same _ _ _ _ _ (mlme one) (other-group not-1 not-5) same = absurd (not-1 refl)
+group-same _ _ _ _ _ (ietf-element subtype content) (ietf-element subtype′ content′) same = cc
+group-same _ _ _ _ _ (ietf-element subtype content) (other-group not-1 not-5) same = absurd (not-5 refl)
+group-same _ _ _ _ _ (other-group not-1 not-5) (mlme other) same = absurd (not-1 refl)
+group-same _ _ _ _ _ (other-group not-1 not-5) (ietf-element subtype content) same = absurd (not-5 refl)
+group-same _ _ _ _ _ (other-group not-1 not-5) (other-group not-1′ not-5′) same = refl
 
 pub payload-same : (xs ys : List ℕ) (f g : List Element) → PayloadElements xs f → PayloadElements ys g → xs ≡ ys → f ≡ g
 payload-same _ _ _ _ bytes-end bytes-end e = refl
@@ -117,7 +112,7 @@ payload-same _ _ _ _ (payload-element a b n c {rest} {inside} {found} d not-15 h
     let head = heads e in
     let same = same (head .0) (head .1) refl d d′ in
     let cut = split c c′ rest rest′ (head .2) (same .0) in
-    rw (group-same _ _ _ _ inside inside′ holds holds′ (same .1) (cut .0), payload-same rest rest′ found found′ more more′ (cut .1))
+    rw (group-same n′ c c′ inside inside′ (rw (same .1) at holds) holds′ (cut .0), payload-same rest rest′ found found′ more more′ (cut .1))
 
 -- ---- the frame
 -- a frame is accepted by its parts
