@@ -28,7 +28,7 @@ use Rattle.eb_read_spec.proofs.ReadLaws.{header-and-payload, elements-are, faul
 use Rattle.eb_grammar_spec.proofs.Stands.{Stands}
 use Rattle.eb_grammar_spec.specs.Grammar.{contents, JoiningContent, absent, Accepts}
 use Rattle.eb_grammar_spec.specs.Claims.{Sound, Complete, Unambiguous, RefusedSaysNothing}
-use Rattle.eb_grammar_spec.proofs.Unique.{accepts}
+use Rattle.eb_grammar_spec.proofs.Unique.{accepted-by}
 use Rattle.eb_grammar_spec.proofs.Notes.{unseen, One, Kept, Notes, notes-none, notes-before}
 use Rattle.eb_grammar_spec.proofs.SoundLists.{OuterGives, payload-sound, HeaderGives, header-sound}
 use Rattle.eb_grammar_spec.proofs.CompleteLists.{Fine, Allowed, Allows, OuterPasses, outers-pass, HeaderPasses, header-passes}
@@ -79,16 +79,16 @@ module _ (s : List ℕ) (bytes : Bytes s) where
   joining-of p e cs (inl none) = rw (none .1) (subst (λ j. JoiningContent [] j) (joining-absent s p e blankJoining refl (none .0)) absent)
   joining-of p e cs (inr one) = rw (one .only, one .ends) (joining-says s bytes p (one .content) (one .stands) (passed 258 p e cs one) (one .some))
 
-  found-accepts : (w : Walk) → length s ≤ 125 → OpeningSays s → Found-in (macHeaderOf s .elements) w → Required w → Accepts s (decoded s w)
+  accepts : (w : Walk) → length s ≤ 125 → OpeningSays s → Found-in (macHeaderOf s .elements) w → Required w → Accepts s (decoded s w)
   unfolding decoded
-  found-accepts w short o f r =
+  accepts w short o f r =
       let n = f .1 .notes in
       let sync = one-of 26 _ _ _ (n .synchronization .1) (r .synchronization) in
       let time = one-of 28 _ _ _ (n .timeslot) (r .timeslot) in
       let hop = one-of 137 _ _ _ (n .hopping .1) (r .hopping) in
       let slot = one-of 27 _ _ _ (n .slotframe .1) (r .slotframe) in
       let long : w .timeslotend - w .timeslot ≡ length (time .content) = omega (arith, time .ends) in
-      accepts short (o .frame ∙ ap (λ (xs : List ℕ). o .fields ++ xs) (f .0 .splits)) (o .says) (f .0 .skips) (f .0 .follows) (f .1 .list) (record {
+      accepted-by short (o .frame ∙ ap (λ (xs : List ℕ). o .fields ++ xs) (f .0 .splits)) (o .says) (f .0 .skips) (f .0 .follows) (f .1 .list) (record {
         synchronization = (sync .content, sync .only, sync-says s _ (sync .content) (sync .stands) (passed 26 _ _ _ sync));
         timeslot = (time .content, time .only, rw long (timeslot-says s _ (time .content) (time .stands) (passed 28 _ _ _ time)));
         hopping = (hop .content, hop .only, hopping-some s _ (hop .content) (hop .stands) (passed 137 _ _ _ hop));
@@ -105,7 +105,7 @@ sound s b bytes e =
     let w : Walk = examined s .walk in
     let there : Found-in s bytes (macHeaderOf s .elements) w =
     subst (λ (v : Walk). v .fault ≡ 0 → (v .synchronization ≡ 0 → ⊥) → Found-in s bytes (macHeaderOf s .elements) v) (ap (λ (end : ℕ). elementsWalk s (macHeaderOf s .elements) end) (opening .1 .ends) ∙ x .1) (elements-sound s bytes (macHeaderOf s .elements)) (no-fault s bytes w (x .2)) (required .synchronization) in
-    subst (λ (r : Beacon). Accepts s r) (accepted-decoded s number ∙ ap (λ (r : ReadAnswer). r .beacon) e) (found-accepts s bytes w (opening .0) (opening .1) there required)
+    subst (λ (r : Beacon). Accepts s r) (accepted-decoded s number ∙ ap (λ (r : ReadAnswer). r .beacon) e) (accepts s bytes w (opening .0) (opening .1) there required)
 
 -- ---- complete
 module _ (s : List ℕ) (b : Beacon) (bytes : Bytes s) (a : Accepts s b) where

@@ -22,7 +22,7 @@ use Rattle.eb_grammar_spec.proofs.Stands.{stands-whole}
 use Rattle.eb_grammar_spec.proofs.Notes.{contents-append, contents-here, contents-other}
 use Rattle.eb_grammar_spec.proofs.Timed.{timeslot-value}
 use Rattle.eb_grammar_spec.proofs.Joined.{single, no-entry}
-use Rattle.eb_grammar_spec.proofs.Unique.{split, heads, fields-same, header-same, payload-same, accepts}
+use Rattle.eb_grammar_spec.proofs.Unique.{split, heads, fields-same, header-same, payload-same, accepted-by}
 
 -- ---- bits that lie within others: c values from a on, of c * d * a values from u on
 within : (u a c d v w : ℕ) → T (ltb 0 a) → T (ltb 0 (c * d)) → v / u % (c * d * a) ≡ w / u % (c * d * a) → v / (u * a) % c ≡ w / (u * a) % c
@@ -66,7 +66,7 @@ module _ (low other : ℕ) (small : low < 256) (small′ : other < 256) (four : 
 pub ignored-bits-do-not-count : IgnoredBitsDoNotCount
 ignored-bits-do-not-count low other high rest b small small′ four six a =
     let f = other-fields low other small small′ four six high rest _ (a .fields) _ _ _ (a .opens) (a .stands) in
-    accepts (a .at-most-125) (f .2) (f .1) (a .skips) (a .follows) (a .lists) (a .says)
+    accepted-by (a .at-most-125) (f .2) (f .1) (a .skips) (a .follows) (a .lists) (a .says)
 
 ends-126 : (_≡_ {A = ℕ} 126 126 → ⊥) → (_≡_ {A = ℕ} 126 127 → ⊥) → ⊥
 ends-126 n m = n refl
@@ -89,7 +89,7 @@ nothing-counts-behind-7f fields header rest low high size pan sequence source b 
 pub header-elements-do-not-count : HeaderElementsDoNotCount
 header-elements-do-not-count fields header other payload low high pan sequence source b opens skips skips′ d short a =
     let same = front-same fields header sequence pan source opens skips low high 0 126 payload d ends-126 _ b a refl in
-    accepts short (rw (same .0, same .2)) (a .opens) skips′ (a .follows) (a .lists) (a .says)
+    accepted-by short (rw (same .0, same .2)) (a .opens) skips′ (a .follows) (a .lists) (a .says)
 
 -- ---- the payload list
 -- what stands behind payload elements goes on with the list, or is ignored
@@ -114,7 +114,7 @@ module _ (before : List ℕ) (p : Before before) (xs ys : List ℕ) (f g : List 
       let same = front-same (p .fields) (p .header) _ _ _ (p .opens) (p .skips) (p .low) (p .high) 0 126 (p .payload ++ xs) (p .follows) ends-126 _ b a (behind xs) in
       let list = heads (same .2) .2 in
       let with : (found : List Element) → PayloadElements (p .payload ++ ys) found → Says found b → Accepts (before ++ ys) b =
-      λ found lists said. accepts short (rw (← same .0, ← same .1) (behind ys)) (a .opens) (a .skips) (p .follows) lists said in
+      λ found lists said. accepted-by short (rw (← same .0, ← same .1) (behind ys)) (a .opens) (a .skips) (p .follows) lists said in
       ⊎-elim
       (λ go.
       let found : p .found ++ f ≡ a .found = payload-same _ _ _ _ (go xs f one) (a .lists) list in
@@ -155,8 +155,8 @@ pub unknown-elements-do-not-count : UnknownElementsDoNotCount
 unknown-elements-do-not-count before content _ rest group inside found b p (one-element low high d) not-15 holds none list short =
     let with : PayloadElements (low ∷ high ∷ (content ++ rest)) (inside ++ found) = payload-element low high group content d not-15 holds list in
     let less : length (before ++ rest) ≤ 125 = omega (arith, short, length-append before rest, length-append before (low ∷ high ∷ (content ++ rest)), length-append content rest) in (
-      known-contents-count before _ _ _ _ b p list with (λ k known. sym (before-same inside [] found none k known)) short,
-      known-contents-count before _ _ _ _ b p with list (before-same inside [] found none) less,
+      replaced before p _ _ _ _ b list with (says-same _ _ b (behind-same (p .found) _ _ (λ k known. sym (before-same inside [] found none k known)))) short,
+      replaced before p _ _ _ _ b with list (says-same _ _ b (behind-same (p .found) _ _ (before-same inside [] found none))) less,
     )
 
 -- ---- groups
@@ -172,8 +172,8 @@ unknown-sub-elements-do-not-count before one unknown two rest group wider in-one
     let without = group-list _ group rest _ found narrow (subs-append one two in-one in-two ones twos) list in
     let with = group-list _ wider rest _ found wide (subs-append one (unknown ++ two) in-one (in-unknown ++ in-two) ones (subs-append unknown two in-unknown in-two unknowns twos)) list in
     let same = before-same (in-one ++ (in-unknown ++ in-two)) (in-one ++ in-two) found (behind-same in-one (in-unknown ++ in-two) in-two (before-same in-unknown [] in-two none)) in (
-      known-contents-count before _ _ _ _ b p without with (λ k known. sym (same k known)) short′,
-      known-contents-count before _ _ _ _ b p with without same short,
+      replaced before p _ _ _ _ b without with (says-same _ _ b (behind-same (p .found) _ _ (λ k known. sym (same k known)))) short′,
+      replaced before p _ _ _ _ b with without (says-same _ _ b (behind-same (p .found) _ _ same)) short,
     )
 
 -- ---- the order

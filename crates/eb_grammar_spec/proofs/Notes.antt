@@ -94,7 +94,7 @@ pub record One (s : List ℕ) (kind p e : ℕ) (cs : List (List ℕ)) : Type 0 w
 abbrev pub Kept : List ℕ → ℕ → ℕ → ℕ → List (List ℕ) → Type 0
 Kept s kind p e cs = ((p ≡ 0) × (cs ≡ [])) ⊎ One s kind p e cs
 
--- the same of the offsets that a walk keeps; where it keeps no end, there is one
+-- what is noted of each kind at the offsets that a walk keeps: of three kinds it keeps no end
 pub record NotesAt (s : List ℕ) (synchronization-at timeslot-at timeslot-end hopping-at slotframe-at joining-at joining-end : ℕ) (found : List Element) : Type 0 where
   pub synchronization : (e : ℕ) × Kept s 26 synchronization-at e (contents 26 found)
   pub timeslot : Kept s 28 timeslot-at timeslot-end (contents 28 found)

@@ -116,7 +116,7 @@ payload-same _ _ _ _ (payload-element a b n c {rest} {inside} {found} d not-15 h
 
 -- ---- the frame
 -- a frame is accepted by its parts
-pub accepts : {s fields header payload : List ℕ} {low high : ℕ} {found : List Element} {b : Beacon} → length s ≤ 125 → s ≡ fields ++ (header ++ (low ∷ high ∷ payload)) → FixedFields fields (b .sequence) (b .pan) (b .source)
+pub accepted-by : {s fields header payload : List ℕ} {low high : ℕ} {found : List Element} {b : Beacon} → length s ≤ 125 → s ≡ fields ++ (header ++ (low ∷ high ∷ payload)) → FixedFields fields (b .sequence) (b .pan) (b .source)
     → HeaderElements header → Descriptor 7 low high 0 126 0 → PayloadElements payload found → Says found b → Accepts s b
-accepts short stands opens skips follows lists says =
+accepted-by short stands opens skips follows lists says =
     record { fields = _; header = _; low = _; high = _; payload = _; found = _; at-most-125 = short; stands = stands; opens = opens; skips = skips; follows = follows; lists = lists; says = says }
