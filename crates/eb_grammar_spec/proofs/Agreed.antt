@@ -26,54 +26,43 @@ use Rattle.eb_read_spec.proofs.Claimed.{number-of}
 use Rattle.eb_read_spec.proofs.Accepted.{Required, accepted-required, accepted-decoded}
 use Rattle.eb_read_spec.proofs.ReadLaws.{header-and-payload, elements-are, faultless, examined-walk, read-done}
 use Rattle.eb_grammar_spec.proofs.Stands.{Stands}
-use Rattle.eb_grammar_spec.specs.Grammar.{Descriptor, Element, contents, HeaderElements, PayloadElements, JoiningContent, absent, Accepts}
+use Rattle.eb_grammar_spec.specs.Grammar.{contents, JoiningContent, absent, Accepts}
 use Rattle.eb_grammar_spec.specs.Claims.{Sound, Complete, Unambiguous, RefusedSaysNothing}
-use Rattle.eb_grammar_spec.proofs.Slices.{part}
+use Rattle.eb_grammar_spec.proofs.Unique.{accepted-by}
 use Rattle.eb_grammar_spec.proofs.Notes.{unseen, One, Kept, Notes, notes-none, notes-before}
-use Rattle.eb_grammar_spec.proofs.SoundLists.{payload-sound, header-sound}
+use Rattle.eb_grammar_spec.proofs.SoundLists.{OuterGives, payload-sound, HeaderGives, header-sound}
 use Rattle.eb_grammar_spec.proofs.CompleteLists.{Fine, Allowed, Allows, OuterPasses, outers-pass, HeaderPasses, header-passes}
 use Rattle.eb_grammar_spec.proofs.Synchronized.{sync-fine, sync-value, sync-says, hopping-some, hopping-fine}
 use Rattle.eb_grammar_spec.proofs.Timed.{timeslot-fine, timeslot-value, timeslot-says}
 use Rattle.eb_grammar_spec.proofs.Linked.{slotframe-fine, slotframe-value, slotframe-says}
-use Rattle.eb_grammar_spec.proofs.Joined.{single, no-entry, joining-says, joining-fine, joining-value-none, joining-value-one}
+use Rattle.eb_grammar_spec.proofs.Joined.{single, no-entry, joining-says, joining-fine, joining-value}
 use Rattle.eb_grammar_spec.proofs.Opened.{Opens, opens-of, OpeningSays, opening-says}
 
 -- ---- sound
-record Found-in (s : List ℕ) (at : ℕ) (w : Walk) : Type 0 where
-  header : List ℕ
-  low : ℕ
-  high : ℕ
-  payload : List ℕ
-  found : List Element
-  splits : part s at (length s - at) ≡ header ++ (low ∷ high ∷ payload)
-  skips : HeaderElements header
-  follows : Descriptor 7 low high 0 126 0
-  lists : PayloadElements payload found
-  notes : Notes s w found
-
 module _ (s : List ℕ) (bytes : Bytes s) where
-  elements-sound : (at : ℕ) → elementsWalk s at (length s) .fault ≡ 0 → (elementsWalk s at (length s) .synchronization ≡ 0 → ⊥) → Found-in s at (elementsWalk s at (length s))
+  -- what the header list gives, and what the payload list behind it does
+  abbrev Found-in : ℕ → Walk → Type 0
+  Found-in at w = HeaderGives s bytes at (length s) (headerList s at (length s)) × OuterGives s bytes (headerList s at (length s) .payload) (length s) [] w
+
+  elements-sound : (at : ℕ) → elementsWalk s at (length s) .fault ≡ 0 → (elementsWalk s at (length s) .synchronization ≡ 0 → ⊥) → Found-in at (elementsWalk s at (length s))
   unfolding elementsWalk behindHeader walkStart blankWalk skippedOver skippedBefore
   elements-sound at =
       let head : HeaderList = headerList s at (length s) in
-      let P : Walk → Type 0 = λ w. w .fault ≡ 0 → (w .synchronization ≡ 0 → ⊥) → Found-in s at w in
+      let P : Walk → Type 0 = λ w. w .fault ≡ 0 → (w .synchronization ≡ 0 → ⊥) → Found-in at w in
       each-eq P _ _ (head .fault) 0
       (λ good. each-eq P _ _ (head .payload) 0 (λ none fine some. absurd (some refl))
       (λ follows fine some.
       let h = header-sound s bytes at (length s) follows in
       let o = payload-sound s bytes (head .payload) (length s) (h .within) (omega arith) fine in
-      record { header = h .header; low = h .low; high = h .high; payload = part s (head .payload) (length s - head .payload); found = o .more; splits = h .splits; skips = h .skips; follows = h .follows; lists = o .list; notes = notes-before s _ _ (o .more) (o .notes) }))
+      (h, record { more = o .more; list = o .list; notes = o .notes })))
       (λ bad fine some. absurd (some refl))
 
-  record Examined (w : Walk) : Type 0 where
-    opens : macHeaderFault s ≡ 0
-    is : elementsWalk s (macHeaderOf s .elements) (macHeaderOf s .end) ≡ w
-    number : walkNumber w ≡ 0
-
-  examined-says : examined s .number ≡ 0 → Examined (examined s .walk)
+  -- an examination without a fault: the MAC header passes, and its walk is that of the elements
+  examined-says : examined s .number ≡ 0 → (macHeaderFault s ≡ 0) × (elementsWalk s (macHeaderOf s .elements) (macHeaderOf s .end) ≡ examined s .walk) × (walkNumber (examined s .walk) ≡ 0)
   unfolding examined
   examined-says =
-      each-eq (λ (x : Examination). x .number ≡ 0 → Examined (x .walk)) _ _ (macHeaderFault s) 0 (λ good e. record { opens = good; is = refl; number = e }) (λ bad e. absurd (bad e))
+      each-eq (λ (x : Examination). x .number ≡ 0 → (macHeaderFault s ≡ 0) × (elementsWalk s (macHeaderOf s .elements) (macHeaderOf s .end) ≡ x .walk) × (walkNumber (x .walk) ≡ 0)) _ _ (macHeaderFault s) 0
+      (λ good e. (good, refl, e)) (λ bad e. absurd (bad e))
 
   no-fault : (w : Walk) → walkNumber w ≡ 0 → w .fault ≡ 0
   unfolding walkNumber
@@ -90,46 +79,32 @@ module _ (s : List ℕ) (bytes : Bytes s) where
   joining-of p e cs (inl none) = rw (none .1) (subst (λ j. JoiningContent [] j) (joining-absent s p e blankJoining refl (none .0)) absent)
   joining-of p e cs (inr one) = rw (one .only, one .ends) (joining-says s bytes p (one .content) (one .stands) (passed 258 p e cs one) (one .some))
 
-  accepts : (w : Walk) → length s ≤ 125 → OpeningSays s → Found-in s (macHeaderOf s .elements) w → Required w → Accepts s (decoded s w)
+  accepts : (w : Walk) → length s ≤ 125 → OpeningSays s → Found-in (macHeaderOf s .elements) w → Required w → Accepts s (decoded s w)
   unfolding decoded
   accepts w short o f r =
-      let n = f .notes in
-      let sync = one-of 26 _ _ _ (n .synchronization) (r .synchronization) in
+      let n = f .1 .notes in
+      let sync = one-of 26 _ _ _ (n .synchronization .1) (r .synchronization) in
       let time = one-of 28 _ _ _ (n .timeslot) (r .timeslot) in
-      let hop = one-of 137 _ _ _ (n .hopping) (r .hopping) in
-      let slot = one-of 27 _ _ _ (n .slotframe) (r .slotframe) in
+      let hop = one-of 137 _ _ _ (n .hopping .1) (r .hopping) in
+      let slot = one-of 27 _ _ _ (n .slotframe .1) (r .slotframe) in
       let long : w .timeslotend - w .timeslot ≡ length (time .content) = omega (arith, time .ends) in
-      record {
-        fields = o .fields;
-        header = f .header;
-        low = f .low;
-        high = f .high;
-        payload = f .payload;
-        found = f .found;
-        at-most-125 = short;
-        stands = o .frame ∙ ap (λ (xs : List ℕ). o .fields ++ xs) (f .splits);
-        opens = o .says;
-        skips = f .skips;
-        follows = f .follows;
-        lists = f .lists;
-        says = record {
-          synchronization = (sync .content, sync .only, sync-says s _ (sync .content) (sync .stands) (passed 26 _ _ _ sync));
-          timeslot = (time .content, time .only, rw long (timeslot-says s _ (time .content) (time .stands) (passed 28 _ _ _ time)));
-          hopping = (hop .content, hop .only, hopping-some s _ (hop .content) (hop .stands) (passed 137 _ _ _ hop));
-          slotframe = (slot .content, slot .only, slotframe-says s _ (slot .content) (slot .stands) (passed 27 _ _ _ slot));
-          joining = joining-of _ _ _ (n .joining);
-        };
-      }
+      accepted-by short (o .frame ∙ ap (λ (xs : List ℕ). o .fields ++ xs) (f .0 .splits)) (o .says) (f .0 .skips) (f .0 .follows) (f .1 .list) (record {
+        synchronization = (sync .content, sync .only, sync-says s _ (sync .content) (sync .stands) (passed 26 _ _ _ sync));
+        timeslot = (time .content, time .only, rw long (timeslot-says s _ (time .content) (time .stands) (passed 28 _ _ _ time)));
+        hopping = (hop .content, hop .only, hopping-some s _ (hop .content) (hop .stands) (passed 137 _ _ _ hop));
+        slotframe = (slot .content, slot .only, slotframe-says s _ (slot .content) (slot .stands) (passed 27 _ _ _ slot));
+        joining = joining-of _ _ _ (n .joining);
+      })
 
 pub sound : Sound
 sound s b bytes e =
     let number : readFrame s .number ≡ 0 = ap (λ (r : ReadAnswer). r .number) e in
     let x = examined-says s bytes (sym (number-of s) ∙ number) in
     let required = accepted-required s number in
-    let opening = opening-says s bytes (x .opens) in
+    let opening = opening-says s bytes (x .0) in
     let w : Walk = examined s .walk in
-    let there : Found-in s (macHeaderOf s .elements) w =
-    subst (λ (v : Walk). v .fault ≡ 0 → (v .synchronization ≡ 0 → ⊥) → Found-in s (macHeaderOf s .elements) v) (ap (λ (end : ℕ). elementsWalk s (macHeaderOf s .elements) end) (opening .1 .ends) ∙ x .is) (elements-sound s bytes (macHeaderOf s .elements)) (no-fault s bytes w (x .number)) (required .synchronization) in
+    let there : Found-in s bytes (macHeaderOf s .elements) w =
+    subst (λ (v : Walk). v .fault ≡ 0 → (v .synchronization ≡ 0 → ⊥) → Found-in s bytes (macHeaderOf s .elements) v) (ap (λ (end : ℕ). elementsWalk s (macHeaderOf s .elements) end) (opening .1 .ends) ∙ x .1) (elements-sound s bytes (macHeaderOf s .elements)) (no-fault s bytes w (x .2)) (required .synchronization) in
     subst (λ (r : Beacon). Accepts s r) (accepted-decoded s number ∙ ap (λ (r : ReadAnswer). r .beacon) e) (accepts s bytes w (opening .0) (opening .1) there required)
 
 -- ---- complete
@@ -187,41 +162,27 @@ module _ (s : List ℕ) (b : Beacon) (bytes : Bytes s) (a : Accepts s b) where
       let same : one .content ≡ c = single (one .content) c [] [] (sym (one .only) ∙ only) .1 in
       (one .some, rw same at (one .stands), rw same at (one .ends))
 
-  abbrev n : Notes s w (a .found)
-  n = notes-before s (passing .walk) (heading .count) (a .found) (passing .notes)
-
-  sync : (w .synchronization ≡ 0 → ⊥) × Stands s (w .synchronization) (a .says .synchronization .0) × (n .synchronization-end ≡ w .synchronization + length (a .says .synchronization .0))
-  sync = noted 26 _ _ (a .says .synchronization .0) (a .says .synchronization .1) (n .synchronization)
-
-  time : (w .timeslot ≡ 0 → ⊥) × Stands s (w .timeslot) (a .says .timeslot .0) × (w .timeslotend ≡ w .timeslot + length (a .says .timeslot .0))
-  time = noted 28 _ _ (a .says .timeslot .0) (a .says .timeslot .1) (n .timeslot)
-
-  hop : (w .hopping ≡ 0 → ⊥) × Stands s (w .hopping) (b .hopping ∷ []) × (n .hopping-end ≡ w .hopping + 1)
-  hop = noted 137 _ _ (b .hopping ∷ []) hopping-once (n .hopping)
-
-  slot : (w .slotframe ≡ 0 → ⊥) × Stands s (w .slotframe) (a .says .slotframe .0) × (n .slotframe-end ≡ w .slotframe + length (a .says .slotframe .0))
-  slot = noted 27 _ _ (a .says .slotframe .0) (a .says .slotframe .1) (n .slotframe)
-
-  none-missing : 0 ≡ missing w
-  unfolding missing
-  none-missing = if-ne _ _ _ _ (sync .0) (if-ne _ _ _ _ (time .0) (if-ne _ _ _ _ (hop .0) (if-ne _ _ _ _ (slot .0) refl)))
-
-  joining-reads : (cs : List (List ℕ)) → JoiningContent cs (b .joining) → Kept s 258 (w .joining) (w .joiningend) cs → b .joining ≡ joiningAt s (w .joining) (w .joiningend)
-  joining-reads cs says (inl none) = joining-value-none s bytes cs (b .joining) says (none .1) _ _ (none .0)
-  joining-reads cs says (inr one) = joining-value-one s bytes cs (b .joining) says (one .content) (one .only) _ _ (one .some) (one .ends) (one .stands)
-
-  decodes-it : b ≡ decoded s w
-  unfolding Stands
+  -- so none is missing, and what is noted decodes to the record
+  decodes-it : (0 ≡ missing w) × (b ≡ decoded s w)
+  unfolding missing Stands
   decodes-it =
-      let long : length (a .says .timeslot .0) ≡ w .timeslotend - w .timeslot = omega (arith, time .2) in
-      decodes s w (b .sequence) (b .pan) (b .source) (b .synchronization) (b .timeslot) (length (a .says .timeslot .0)) (b .hopping) (b .slotframe) (b .joining) (opening .reading .sequence-is) (opening .reading .pan-is) (opening .reading .source-is)
-      (sync-value s _ (a .says .synchronization .0) (sync .1) _ _ (a .says .synchronization .2)) long (timeslot-value s _ (a .says .timeslot .0) (b .timeslot) (a .says .timeslot .2) (time .1)) (sym (hop .1 .0))
-      (slotframe-value s _ (a .says .slotframe .0) (b .slotframe) (a .says .slotframe .2) (slot .1)) (joining-reads _ (a .says .joining) (n .joining))
+      let n : Notes s w (a .found) = notes-before s (passing .walk) (heading .count) (a .found) (passing .notes) in
+      let sync = noted 26 _ _ (a .says .synchronization .0) (a .says .synchronization .1) (n .synchronization .1) in
+      let time = noted 28 _ _ (a .says .timeslot .0) (a .says .timeslot .1) (n .timeslot) in
+      let hop = noted 137 _ _ (b .hopping ∷ []) hopping-once (n .hopping .1) in
+      let slot = noted 27 _ _ (a .says .slotframe .0) (a .says .slotframe .1) (n .slotframe .1) in
+      let long : length (a .says .timeslot .0) ≡ w .timeslotend - w .timeslot = omega (arith, time .2) in (
+        if-ne _ _ _ _ (sync .0) (if-ne _ _ _ _ (time .0) (if-ne _ _ _ _ (hop .0) (if-ne _ _ _ _ (slot .0) refl))),
+        decodes s w (b .sequence) (b .pan) (b .source) (b .synchronization) (b .timeslot) (length (a .says .timeslot .0)) (b .hopping) (b .slotframe) (b .joining) (opening .reading .sequence-is) (opening .reading .pan-is)
+            (opening .reading .source-is) (sync-value s _ (a .says .synchronization .0) (sync .1) _ _ (a .says .synchronization .2)) long
+            (timeslot-value s _ (a .says .timeslot .0) (b .timeslot) (a .says .timeslot .2) (time .1)) (sym (hop .1 .0)) (slotframe-value s _ (a .says .slotframe .0) (b .slotframe) (a .says .slotframe .2) (slot .1))
+            (joining-value s bytes _ (b .joining) (a .says .joining) _ _ (n .joining)),
+      )
 
   reads : _≡_ {A = ReadAnswer} (record { number = 0; beacon = b }) (readFrame s)
   reads =
-      let x : _≡_ {A = Examination} (record { number = 0; walk = w }) (examined s) = examined-walk s 0 (opening .fine) w 0 refl walk-is (faultless w 0 good none-missing) in
-      read-done s (record { number = 0; walk = w }) x b refl decodes-it
+      let x : _≡_ {A = Examination} (record { number = 0; walk = w }) (examined s) = examined-walk s 0 (opening .fine) w 0 refl walk-is (faultless w 0 good (decodes-it .0)) in
+      read-done s (record { number = 0; walk = w }) x b refl (decodes-it .1)
 
 pub complete : Complete
 complete s b bytes a = sym (reads s b bytes a)

@@ -21,7 +21,7 @@ use Rattle.ie_walk_spec.proofs.ListLaws.{HeaderLeads, header-payload, header-tu
 use Rattle.eb_grammar_spec.proofs.Stands.{Stands, stands-first, stands-rest, stands-at}
 use Rattle.eb_grammar_spec.specs.Grammar.{Descriptor, Element, contents, SubDescriptor, SubElements, group-end, sub-element, PayloadElements, bytes-end, payload-end, payload-element, mlme, ietf-element, other-group, HeaderElements, header-end, header-element}
 use Rattle.eb_grammar_spec.proofs.StepsOf.{sub-step, group-step, payload-end-step, payload-step, header-step}
-use Rattle.eb_grammar_spec.proofs.Notes.{unseen, split-sync, split-timeslot, split-hopping, split-slotframe, split-joining, Kept, Notes, contents-append, notes-skip, notes-other, notes-taken}
+use Rattle.eb_grammar_spec.proofs.Notes.{unseen, splits, Kept, Notes, contents-here, notes-skip, notes-other, notes-taken}
 
 -- an element without a fault is taken
 takes : (s : List ℕ) (w : Walk) (kind from to at : ℕ) → 0 ≡ partFault s kind from to (seenOf w) → taken w kind from to ≡ partTaken s w kind from to at
@@ -48,25 +48,21 @@ module _ (s : List ℕ) where
     abbrev all : List Element
     all = before ++ (record { kind = kind; content = c } ∷ after)
 
-    contents-here : (k : ℕ) → kind ≡ k → contents k all ≡ contents k before ++ (c ∷ contents k after)
-    unfolding contents
-    contents-here k e = contents-append k before _ ∙ ap (λ (cs : List (List ℕ)). contents k before ++ cs) (sym (if-eq _ _ _ _ e refl))
-
     fresh : (k p e : ℕ) → Kept s k p e (contents k before) → Allowed k all → kind ≡ k → (p ≡ 0) × Fine k c
-    fresh k p e (inl none) allowed is = (none .0, allowed c (contents k before) _ (contents-here k is) .1)
+    fresh k p e (inl none) allowed is = (none .0, allowed c (contents k before) _ (contents-here before after _ k is) .1)
     fresh k p e (inr one) allowed is =
-        let none : contents k before ≡ [] = allowed c (contents k before) _ (contents-here k is) .0 in
+        let none : contents k before ≡ [] = allowed c (contents k before) _ (contents-here before after _ k is) .0 in
         let zero-one : _≡_ {A = ℕ} 0 1 = ap length (sym none ∙ one .only) in
         absurd (omega arith)
 
     passes : (w : Walk) (from : ℕ) → Notes s w before → Allows all → Stands s from c → partFault s kind from (from + length c) (seenOf w) ≡ 0
     unfolding partFault seenOf
     passes w from n allows h =
-        by-eq kind 26 (λ e. let f = fresh 26 _ _ (n .synchronization) (allows .synchronization) e in rw e (split-sync s from _ (seenOf w) .1 (f .0) (f .1 from h)))
-        (λ not-26. by-eq kind 28 (λ e. let f = fresh 28 _ _ (n .timeslot) (allows .timeslot) e in rw e (split-timeslot s from _ (seenOf w) .1 (f .0) (f .1 from h)))
-        (λ not-28. by-eq kind 137 (λ e. let f = fresh 137 _ _ (n .hopping) (allows .hopping) e in rw e (split-hopping s from _ (seenOf w) .1 (f .0) (f .1 from h)))
-        (λ not-137. by-eq kind 27 (λ e. let f = fresh 27 _ _ (n .slotframe) (allows .slotframe) e in rw e (split-slotframe s from _ (seenOf w) .1 (f .0) (f .1 from h)))
-        (λ not-27. by-eq kind 258 (λ e. let f = fresh 258 _ _ (n .joining) (allows .joining) e in rw e (split-joining s from _ (seenOf w) .1 (f .0) (f .1 from h)))
+        by-eq kind 26 (λ e. let f = fresh 26 _ _ (n .synchronization .1) (allows .synchronization) e in rw e (splits s from _ (seenOf w) .synchronization .1 (f .0) (f .1 from h)))
+        (λ not-26. by-eq kind 28 (λ e. let f = fresh 28 _ _ (n .timeslot) (allows .timeslot) e in rw e (splits s from _ (seenOf w) .timeslot .1 (f .0) (f .1 from h)))
+        (λ not-28. by-eq kind 137 (λ e. let f = fresh 137 _ _ (n .hopping .1) (allows .hopping) e in rw e (splits s from _ (seenOf w) .hopping .1 (f .0) (f .1 from h)))
+        (λ not-137. by-eq kind 27 (λ e. let f = fresh 27 _ _ (n .slotframe .1) (allows .slotframe) e in rw e (splits s from _ (seenOf w) .slotframe .1 (f .0) (f .1 from h)))
+        (λ not-27. by-eq kind 258 (λ e. let f = fresh 258 _ _ (n .joining) (allows .joining) e in rw e (splits s from _ (seenOf w) .joining .1 (f .0) (f .1 from h)))
         (λ not-258. sym (if-ne _ _ _ _ not-26 (if-ne _ _ _ _ not-28 (if-ne _ _ _ _ not-137 (if-ne _ _ _ _ not-27 (if-ne _ _ _ _ not-258 refl))))))))))
 
   -- behind a descriptor, and behind the content too

@@ -5,76 +5,71 @@ use mathlib.Core.Path.{_≡_, refl, sym, _∙_, ap, subst}
 use mathlib.Core.Bool.{true}
 use mathlib.Core.List.{List, [], _∷_, _++_, append-nil, append-assoc}
 use mathlib.Core.Logic.{_⊎_, inl, inr, ⊎-elim}
+use native.Mathlib.Nat.{mod-lt, div-div-eq-div-mul, dvd-mul-right, mod-mod-of-dvd}
 use native.Mathlib.Omega.{arith}
-use lib.ListN.{length, getD, length-append}
-use Rattle.octets_spec.proofs.ChoiceLaws.{if-eq, if-ne}
+use lib.Arith.{digits-div, mod-mul}
+use lib.Dec.{T, lit<, ltb}
+use lib.ListN.{length, length-append}
 use Rattle.mac_header_spec.specs.declared.SequenceNumber.{SequenceNumber}
 use Rattle.mac_header_spec.specs.declared.Address.{Address}
 use Rattle.eb_record_spec.specs.declared.TimeslotTemplate.{TimeslotTemplate}
 use Rattle.eb_record_spec.specs.declared.JoiningInformation.{JoiningInformation}
 use Rattle.eb_record_spec.specs.declared.Beacon.{Beacon}
 use Rattle.eb_grammar_spec.specs.Row.{le, be, bits}
-use Rattle.eb_grammar_spec.specs.Grammar.{FrameControl, FixedFields, fixed-fields, Descriptor, HeaderElements, Element, SubElements, group-end, sub-element, mlme, ietf-element, PayloadElements, bytes-end, payload-end, payload-element, TimeslotContent, timed-25, timed-27, JoiningContent, absent, joining, contents, Says, Accepts}
+use Rattle.eb_grammar_spec.specs.Grammar.{FrameControl, FixedFields, fixed-fields, Descriptor, HeaderElements, Element, SubElements, group-end, sub-element, mlme, ietf-element, PayloadElements, bytes-end, payload-end, payload-element, TimeslotContent, timed-25, timed-27, JoiningContent, absent, joining, contents, Once, Says, Accepts}
 use Rattle.eb_grammar_spec.specs.Follows.{Known, SameKnown, Before, OneElement, one-element, one-sub-element, IgnoredBitsDoNotCount, HeaderElementsDoNotCount, NothingCountsBehind7F, KnownContentsCount, BytesBehindGroup15DoNotCount, UnknownElementsDoNotCount, UnknownSubElementsDoNotCount, OrderDoesNotCount, ReservedJoiningBitsDoNotCount, BothTimingFormsSayTheSame}
 use Rattle.eb_grammar_spec.proofs.Stands.{stands-whole}
-use Rattle.eb_grammar_spec.proofs.Notes.{contents-append}
+use Rattle.eb_grammar_spec.proofs.Notes.{contents-append, contents-here, contents-other}
 use Rattle.eb_grammar_spec.proofs.Timed.{timeslot-value}
-use Rattle.eb_grammar_spec.proofs.Joined.{no-entry}
-use Rattle.eb_grammar_spec.proofs.Unique.{split, heads, fields-same, header-same, payload-same}
+use Rattle.eb_grammar_spec.proofs.Joined.{single, no-entry}
+use Rattle.eb_grammar_spec.proofs.Unique.{split, heads, fields-same, header-same, payload-same, accepted-by}
+
+-- ---- bits that lie within others: c values from a on, of c * d * a values from u on
+within : (u a c d v w : ℕ) → T (ltb 0 a) → T (ltb 0 (c * d)) → v / u % (c * d * a) ≡ w / u % (c * d * a) → v / (u * a) % c ≡ w / (u * a) % c
+within u a c d v w some some-more e = inside v ∙ (ap (λ (n : ℕ). n / a % c) e ∙ sym (inside w))
+  where
+    inside : (n : ℕ) → n / (u * a) % c ≡ n / u % (c * d * a) / a % c
+    inside n = rw (mod-mul (n / u) {m = c * d} {c = a} (lit< some-more) (lit< some), digits-div (n / u / a % (c * d)) (mod-lt (n / u) (lit< some)), mod-mod-of-dvd c (n / u / a) (dvd-mul-right c d), div-div-eq-div-mul)
 
 -- ---- the fixed fields and the header elements
-eighth : (n : ℕ) → n / 8 % 2 ≡ n % 16 / 8
-eighth n = omega arith
+two-bytes : (low x : ℕ) → low < 256 → ((low + 256 * x) / 1 % 16 ≡ low / 1 % 16) × ((low + 256 * x) / 1 % 256 ≡ low / 1 % 256) × ((low + 256 * x) / 256 ≡ x)
+two-bytes low x small = (omega arith, omega arith, omega arith)
 
-three : (v w : ℕ) → v % 16 ≡ w % 16 → w / 1 % 8 ≡ 0 → v / 1 % 8 ≡ 0
-three v w e f = omega (arith, e, f)
+module _ (low other : ℕ) (small : low < 256) (small′ : other < 256) (four : bits 0 4 low ≡ bits 0 4 other) (six : bits 6 1 low ≡ bits 6 1 other) (high : ℕ) where
+  other-bits : (suppression mode : ℕ) → FrameControl (le (low ∷ high ∷ [])) suppression mode → FrameControl (le (other ∷ high ∷ [])) suppression mode
+  unfolding le
+  other-bits suppression mode c =
+      let x : ℕ = high + 256 * 0 in
+      let v : ℕ = other + 256 * x in
+      let w : ℕ = low + 256 * x in
+      let new = two-bytes other x small′ in
+      let old = two-bytes low x small in
+      let below : v / 1 % 16 ≡ w / 1 % 16 = new .0 ∙ (sym four ∙ sym (old .0)) in
+      let above : v / 256 % 256 ≡ w / 256 % 256 = rw (new .2, old .2) in
+      record {
+        type = within 1 1 8 2 v w tt tt below ∙ c .type;
+        security = within 1 8 2 1 v w tt tt below ∙ c .security;
+        compression = within 1 64 2 2 v other tt tt (new .1) ∙ (sym six ∙ (within 1 64 2 2 low w tt tt (sym (old .1)) ∙ c .compression));
+        suppression = within 256 1 2 128 v w tt tt above ∙ c .suppression;
+        elements = within 256 2 2 64 v w tt tt above ∙ c .elements;
+        destination = within 256 4 4 16 v w tt tt above ∙ c .destination;
+        version = within 256 16 4 4 v w tt tt above ∙ c .version;
+        source = within 256 64 4 1 v w tt tt above ∙ c .source;
+      }
 
-even : (n k : ℕ) → (n + 4 * k) % 2 ≡ n % 2
-even n k = omega arith
-
-sixth : (n x : ℕ) → (n + 256 * x) / 64 % 2 ≡ n / 64 % 2
-sixth n x = let k : (n + 256 * x) / 64 ≡ n / 64 + 4 * x = omega arith in rw k (even (n / 64) x)
-
-module _ (low other : ℕ) (small : low < 256) (small′ : other < 256) where
-  same-above : (x : ℕ) → let v : ℕ = other + 256 * x in let w : ℕ = low + 256 * x in (v / 256 ≡ w / 256) × (v / 512 ≡ w / 512) × (v / 1024 ≡ w / 1024) × (v / 4096 ≡ w / 4096) × (v / 16384 ≡ w / 16384)
-  same-above x = (omega arith, omega arith, omega arith, omega arith, omega arith)
-
-  module _ (four : bits 0 4 low ≡ bits 0 4 other) (six : bits 6 1 low ≡ bits 6 1 other) (high : ℕ) where
-    same-below : (x : ℕ) → (other + 256 * x) % 16 ≡ (low + 256 * x) % 16
-    same-below x = omega (arith, four)
-
-    other-bits : (suppression mode : ℕ) → FrameControl (le (low ∷ high ∷ [])) suppression mode → FrameControl (le (other ∷ high ∷ [])) suppression mode
-    unfolding le
-    other-bits suppression mode c =
-        let x : ℕ = high + 256 * 0 in
-        let above = same-above x in
-        record {
-          type = three (other + 256 * x) (low + 256 * x) (same-below x) (c .type);
-          security = eighth (other + 256 * x) ∙ (ap (λ (n : ℕ). n / 8) (same-below x) ∙ (sym (eighth (low + 256 * x)) ∙ c .security));
-          compression = sixth other x ∙ (sym six ∙ (sym (sixth low x) ∙ c .compression));
-          suppression = ap (λ (n : ℕ). n % 2) (above .0) ∙ c .suppression;
-          elements = ap (λ (n : ℕ). n % 2) (above .1) ∙ c .elements;
-          destination = ap (λ (n : ℕ). n % 4) (above .2) ∙ c .destination;
-          version = ap (λ (n : ℕ). n % 4) (above .3) ∙ c .version;
-          source = ap (λ (n : ℕ). n % 4) (above .4) ∙ c .source;
-        }
-
-    other-fields : (rest xs fields : List ℕ) (n : SequenceNumber) (p : ℕ) (s : Address) → FixedFields fields n p s → low ∷ high ∷ rest ≡ fields ++ xs → (changed : List ℕ) × FixedFields changed n p s × (other ∷ high ∷ rest ≡ changed ++ xs)
-    other-fields rest xs _ _ _ _ (fixed-fields l h p q {suppression} {mode} {sequence} {source} c q-says s-says) e =
-        let head = heads e in
-        let d : FrameControl (le (other ∷ h ∷ [])) suppression mode = rw (head .1) at (other-bits suppression mode (rw (head .0, head .1) c)) in
-        (other ∷ h ∷ (sequence ++ (p ∷ q ∷ 255 ∷ 255 ∷ source)), fixed-fields other h p q d q-says s-says, rw (head .1, head .2))
+  other-fields : (rest xs fields : List ℕ) (n : SequenceNumber) (p : ℕ) (s : Address) → FixedFields fields n p s → low ∷ high ∷ rest ≡ fields ++ xs → (changed : List ℕ) × FixedFields changed n p s × (other ∷ high ∷ rest ≡ changed ++ xs)
+  other-fields rest xs _ _ _ _ (fixed-fields l h p q {suppression} {mode} {sequence} {source} c q-says s-says) e =
+      let head = heads e in
+      let d : FrameControl (le (other ∷ h ∷ [])) suppression mode = rw (head .1) at (other-bits suppression mode (rw (head .0, head .1) c)) in
+      (other ∷ h ∷ (sequence ++ (p ∷ q ∷ 255 ∷ 255 ∷ source)), fixed-fields other h p q d q-says s-says, rw (head .1, head .2))
 
 pub ignored-bits-do-not-count : IgnoredBitsDoNotCount
 ignored-bits-do-not-count low other high rest b small small′ four six a =
     let f = other-fields low other small small′ four six high rest _ (a .fields) _ _ _ (a .opens) (a .stands) in
-    record { fields = f .0; header = a .header; low = a .low; high = a .high; payload = a .payload; found = a .found; at-most-125 = a .at-most-125; stands = f .2; opens = f .1; skips = a .skips; follows = a .follows; lists = a .lists; says = a .says }
+    accepted-by (a .at-most-125) (f .2) (f .1) (a .skips) (a .follows) (a .lists) (a .says)
 
 ends-126 : (_≡_ {A = ℕ} 126 126 → ⊥) → (_≡_ {A = ℕ} 126 127 → ⊥) → ⊥
 ends-126 n m = n refl
-
-ends-127 : (_≡_ {A = ℕ} 127 126 → ⊥) → (_≡_ {A = ℕ} 127 127 → ⊥) → ⊥
-ends-127 n m = m refl
 
 module _ (fields header : List ℕ) (sequence : SequenceNumber) (pan : ℕ) (source : Address) (opens : FixedFields fields sequence pan source) (skips : HeaderElements header) where
   -- where the fields and the header elements of an accepted frame end
@@ -87,28 +82,14 @@ module _ (fields header : List ℕ) (sequence : SequenceNumber) (pan : ℕ) (sou
 
 pub nothing-counts-behind-7f : NothingCountsBehind7F
 nothing-counts-behind-7f fields header rest low high size pan sequence source b opens skips d a =
-    let same = heads (front-same fields header sequence pan source opens skips low high size 127 rest d ends-127 _ b a refl .2) in
+    let same = heads (front-same fields header sequence pan source opens skips low high size 127 rest d (λ n m. m refl) _ b a refl .2) in
     let is = rw (same .0, same .1) at (d .parts) in
     omega (arith, is, a .follows .parts, d .length-fits)
 
 pub header-elements-do-not-count : HeaderElementsDoNotCount
 header-elements-do-not-count fields header other payload low high pan sequence source b opens skips skips′ d short a =
     let same = front-same fields header sequence pan source opens skips low high 0 126 payload d ends-126 _ b a refl in
-    record {
-      fields = a .fields;
-      header = other;
-      low = a .low;
-      high = a .high;
-      payload = a .payload;
-      found = a .found;
-      at-most-125 = short;
-      stands = rw (same .0, same .2);
-      opens = a .opens;
-      skips = skips′;
-      follows = a .follows;
-      lists = a .lists;
-      says = a .says;
-    }
+    accepted-by short (rw (same .0, same .2)) (a .opens) skips′ (a .follows) (a .lists) (a .says)
 
 -- ---- the payload list
 -- what stands behind payload elements goes on with the list, or is ignored
@@ -133,21 +114,7 @@ module _ (before : List ℕ) (p : Before before) (xs ys : List ℕ) (f g : List 
       let same = front-same (p .fields) (p .header) _ _ _ (p .opens) (p .skips) (p .low) (p .high) 0 126 (p .payload ++ xs) (p .follows) ends-126 _ b a (behind xs) in
       let list = heads (same .2) .2 in
       let with : (found : List Element) → PayloadElements (p .payload ++ ys) found → Says found b → Accepts (before ++ ys) b =
-      λ found lists said. record {
-        fields = a .fields;
-        header = a .header;
-        low = p .low;
-        high = p .high;
-        payload = p .payload ++ ys;
-        found = found;
-        at-most-125 = short;
-        stands = rw (← same .0, ← same .1) (behind ys);
-        opens = a .opens;
-        skips = a .skips;
-        follows = p .follows;
-        lists = lists;
-        says = said;
-      } in
+      λ found lists said. accepted-by short (rw (← same .0, ← same .1) (behind ys)) (a .opens) (a .skips) (p .follows) lists said in
       ⊎-elim
       (λ go.
       let found : p .found ++ f ≡ a .found = payload-same _ _ _ _ (go xs f one) (a .lists) list in
@@ -158,14 +125,19 @@ module _ (before : List ℕ) (p : Before before) (xs ys : List ℕ) (f g : List 
       (goes-on (p .payload) (p .found) (p .lists))
 
 -- ---- elements that say the same
-says-same : (f g : List Element) (b : Beacon) → SameKnown f g → Says f b → Says g b
-says-same f g b same says = record {
-  synchronization = (says .synchronization .0, sym (same 26 (inl refl)) ∙ says .synchronization .1, says .synchronization .2);
-  timeslot = (says .timeslot .0, sym (same 28 (inr (inr (inl refl)))) ∙ says .timeslot .1, says .timeslot .2);
-  hopping = (says .hopping .0, sym (same 137 (inr (inr (inr (inl refl))))) ∙ says .hopping .1, says .hopping .2);
-  slotframe = (says .slotframe .0, sym (same 27 (inr (inl refl))) ∙ says .slotframe .1, says .slotframe .2);
-  joining = rw (← same 258 (inr (inr (inr (inr refl))))) (says .joining);
+-- timeslot and joining information may differ in their contents
+says-but : (f g : List Element) (b : Beacon) → ((k : ℕ) → Known k → (28 ≡ k → ⊥) → (258 ≡ k → ⊥) → contents k f ≡ contents k g) → (Once 28 f (λ c. TimeslotContent c (b .timeslot)) → Once 28 g (λ c. TimeslotContent c (b .timeslot)))
+    → (JoiningContent (contents 258 f) (b .joining) → JoiningContent (contents 258 g) (b .joining)) → Says f b → Says g b
+says-but f g b same timed joined says = record {
+  synchronization = rw (← same 26 (inl refl) (λ z. omega arith) (λ z. omega arith)) (says .synchronization);
+  timeslot = timed (says .timeslot);
+  hopping = rw (← same 137 (inr (inr (inr (inl refl)))) (λ z. omega arith) (λ z. omega arith)) (says .hopping);
+  slotframe = rw (← same 27 (inr (inl refl)) (λ z. omega arith) (λ z. omega arith)) (says .slotframe);
+  joining = joined (says .joining);
 }
+
+says-same : (f g : List Element) (b : Beacon) → SameKnown f g → Says f b → Says g b
+says-same f g b same = says-but f g b (λ k known not-28 not-258. same k known) (λ t. rw (← same 28 (inr (inr (inl refl)))) t) (λ j. rw (← same 258 (inr (inr (inr (inr refl))))) j)
 
 behind-same : (h f g : List Element) → SameKnown f g → SameKnown (h ++ f) (h ++ g)
 behind-same h f g same k known = rw (contents-append k h f, contents-append k h g, same k known)
@@ -199,10 +171,9 @@ pub unknown-sub-elements-do-not-count : UnknownSubElementsDoNotCount
 unknown-sub-elements-do-not-count before one unknown two rest group wider in-one in-unknown in-two found b p narrow wide ones unknowns twos none list short short′ =
     let without = group-list _ group rest _ found narrow (subs-append one two in-one in-two ones twos) list in
     let with = group-list _ wider rest _ found wide (subs-append one (unknown ++ two) in-one (in-unknown ++ in-two) ones (subs-append unknown two in-unknown in-two unknowns twos)) list in
-    let same : SameKnown (p .found ++ ((in-one ++ (in-unknown ++ in-two)) ++ found)) (p .found ++ ((in-one ++ in-two) ++ found)) =
-    behind-same (p .found) _ _ (before-same _ _ found (behind-same in-one _ _ (before-same in-unknown [] in-two none))) in (
-      replaced before p _ _ _ _ b without with (says-same _ _ b (λ k known. sym (same k known))) short′,
-      replaced before p _ _ _ _ b with without (says-same _ _ b same) short,
+    let same = before-same (in-one ++ (in-unknown ++ in-two)) (in-one ++ in-two) found (behind-same in-one (in-unknown ++ in-two) in-two (before-same in-unknown [] in-two none)) in (
+      replaced before p _ _ _ _ b without with (says-same _ _ b (behind-same (p .found) _ _ (λ k known. sym (same k known)))) short′,
+      replaced before p _ _ _ _ b with without (says-same _ _ b (behind-same (p .found) _ _ same)) short,
     )
 
 -- ---- the order
@@ -230,69 +201,37 @@ module _ {A : Type 0} where
       let same : v ++ (w ++ x) ≡ w ++ (v ++ x) = sym (append-assoc v w x) ∙ (ap (λ (l : List A). l ++ x) (swap v w short) ∙ append-assoc w v x) in
       rw same
 
-contents-of : (k : ℕ) (a u v w x y : List Element) → contents k (a ++ ((u ++ (v ++ (w ++ x))) ++ y)) ≡ contents k a ++ ((contents k u ++ (contents k v ++ (contents k w ++ contents k x))) ++ contents k y)
-contents-of k a u v w x y =
-    rw (contents-append k a ((u ++ (v ++ (w ++ x))) ++ y), contents-append k (u ++ (v ++ (w ++ x))) y, contents-append k u (v ++ (w ++ x)), contents-append k v (w ++ x), contents-append k w x)
-
 pub order-does-not-count : OrderDoesNotCount
 order-does-not-count before one two three four rest group other u v w x found b p first second ones twos threes fours list short =
     let list₁ = group-list _ group rest _ found first (subs-append one _ u _ ones (subs-append two _ v _ twos (subs-append three four w x threes fours))) list in
     let list₂ = group-list _ other rest _ found second (subs-append one _ u _ ones (subs-append three _ w _ threes (subs-append two four v x twos fours))) list in
     replaced before p _ _ _ _ b list₁ list₂
-    (λ says.
-    says-same _ _ b (λ k known.
-    contents-of k (p .found) u v w x found
-    ∙ (swap-inside (contents k (p .found)) (contents k u) (contents k v) (contents k w) (contents k x) (contents k found) (rw (contents-of k (p .found) u v w x found) at (says-few _ b says k known))
-    ∙ sym (contents-of k (p .found) u w v x found))) says) short
+    (λ says. says-same _ _ b
+    (λ k known. simp contents-append (swap-inside (contents k (p .found)) (contents k u) (contents k v) (contents k w) (contents k x) (contents k found) (simp contents-append at (says-few _ b says k known)))) says) short
 
 -- ---- the content of one element
-only-one : {A : Type 0} (x c d : A) (before after : List A) → before ++ (c ∷ after) ≡ x ∷ [] → (c ≡ x) × (before ++ (d ∷ after) ≡ d ∷ [])
-only-one x c d [] [] e = (ap (λ (l : List _). getD l 0 x) e, refl)
-only-one x c d [] (y ∷ after) e = let longer : _≡_ {A = ℕ} (2 + length after) 1 = omega arith ∙ ap length e in absurd (omega (arith, longer))
-only-one x c d (y ∷ before) after e = let longer : _≡_ {A = ℕ} (suc (length (before ++ (c ∷ after)))) 1 = ap length e in absurd (omega (arith, longer, length-append before (c ∷ after)))
+only-one : {A : Type 0} (x c d : A) (before after : List A) → x ∷ [] ≡ before ++ (c ∷ after) → (x ≡ c) × (before ++ (d ∷ after) ≡ d ∷ [])
+only-one x c d before after e = let one = single x c before after e in (one .1, rw (one .0, one .2))
 
 module _ (h f : List Element) (kind : ℕ) where
   here : (c : List ℕ) → contents kind (h ++ (record { kind = kind; content = c } ∷ f)) ≡ contents kind h ++ (c ∷ contents kind f)
-  unfolding contents
-  here c = contents-append kind h _ ∙ ap (λ (cs : List (List ℕ)). contents kind h ++ cs) (sym (if-eq _ _ kind kind refl refl))
+  here c = contents-here h f _ kind refl
 
   elsewhere : (c d : List ℕ) (k : ℕ) → (kind ≡ k → ⊥) → contents k (h ++ (record { kind = kind; content = c } ∷ f)) ≡ contents k (h ++ (record { kind = kind; content = d } ∷ f))
-  unfolding contents
-  elsewhere c d k n = contents-append k h _ ∙ (ap (λ (cs : List (List ℕ)). contents k h ++ cs) (sym (if-ne _ _ kind k n refl) ∙ if-ne _ _ kind k n refl) ∙ sym (contents-append k h _))
+  elsewhere c d k n = contents-other h f _ k n ∙ sym (contents-other h f _ k n)
 
 -- ---- joining information's reserved bits
-bit-31 : (n : ℕ) → n / 2147483648 % 2 ≡ n / 1073741824 % 4 / 2
-bit-31 n = let k : n / 2147483648 ≡ n / 1073741824 / 2 = omega arith in rw k (omega arith)
-
-bit-30 : (n : ℕ) → n / 1073741824 % 2 ≡ n / 1073741824 % 4 % 2
-bit-30 n = omega arith
-
-bits-20 : (n : ℕ) → n / 1048576 % 128 ≡ n / 1 % 134217728 / 1048576
-bits-20 n = omega arith
-
-bits-8 : (n : ℕ) → n / 256 % 4096 ≡ n / 1 % 134217728 / 256 % 4096
-bits-8 n = let k : n / 1 % 134217728 / 256 ≡ n / 256 % 524288 = omega arith in rw k (omega arith)
-
-bits-0 : (n : ℕ) → n / 1 % 256 ≡ n / 1 % 134217728 % 256
-bits-0 n = omega arith
-
 module _ (word other content : List ℕ) (four : length word ≡ 4) (four′ : length other ≡ 4) (top : bits 30 2 (be word) ≡ bits 30 2 (be other)) (low : bits 0 27 (be word) ≡ bits 0 27 (be other)) where
-  by-top : (f : ℕ → ℕ) (g : ℕ → ℕ) → ((n : ℕ) → f n ≡ g (n / 1073741824 % 4)) → f (be word) ≡ f (be other)
-  by-top f g is = is (be word) ∙ (ap g top ∙ sym (is (be other)))
-
-  by-low : (f : ℕ → ℕ) (g : ℕ → ℕ) → ((n : ℕ) → f n ≡ g (n / 1 % 134217728)) → f (be word) ≡ f (be other)
-  by-low f g is = is (be word) ∙ (ap g low ∙ sym (is (be other)))
-
   joining-changed : (cs : List (List ℕ)) (j : JoiningInformation) → JoiningContent cs j → (before after : List (List ℕ)) → cs ≡ before ++ ((word ++ content) ∷ after) → JoiningContent (before ++ ((other ++ content) ∷ after)) j
   joining-changed _ _ absent before after e = absurd (no-entry _ before after e)
   joining-changed _ _ (joining w address network w-four eight few) before after e =
-      let one = only-one (w ++ (address ++ network)) (word ++ content) (other ++ content) before after (sym e) in
-      let cut = split w word (address ++ network) content (sym (one .0)) (w-four ∙ sym four) in
-      let p : bits 30 1 (be word) ≡ bits 30 1 (be other) = by-top (λ n. bits 30 1 n) (λ n. n % 2) bit-30 in
-      let r : bits 31 1 (be word) ≡ bits 31 1 (be other) = by-top (λ n. bits 31 1 n) (λ n. n / 2) bit-31 in
-      let proxy : bits 20 7 (be word) ≡ bits 20 7 (be other) = by-low (λ n. bits 20 7 n) (λ n. n / 1048576) bits-20 in
-      let rank : bits 8 12 (be word) ≡ bits 8 12 (be other) = by-low (λ n. bits 8 12 n) (λ n. n / 256 % 4096) bits-8 in
-      let pan : bits 0 8 (be word) ≡ bits 0 8 (be other) = by-low (λ n. bits 0 8 n) (λ n. n % 256) bits-0 in
+      let one = only-one (w ++ (address ++ network)) (word ++ content) (other ++ content) before after e in
+      let cut = split w word (address ++ network) content (one .0) (w-four ∙ sym four) in
+      let p : bits 30 1 (be word) ≡ bits 30 1 (be other) = within 1073741824 1 2 2 _ _ tt tt top in
+      let r : bits 31 1 (be word) ≡ bits 31 1 (be other) = within 1073741824 2 2 1 _ _ tt tt top in
+      let proxy : bits 20 7 (be word) ≡ bits 20 7 (be other) = within 1 1048576 128 1 _ _ tt tt low in
+      let rank : bits 8 12 (be word) ≡ bits 8 12 (be other) = within 1 256 4096 128 _ _ tt tt low in
+      let pan : bits 0 8 (be word) ≡ bits 0 8 (be other) = within 1 1 256 524288 _ _ tt tt low in
       let eight′ : length address ≡ 8 * bits 30 1 (be other) = eight ∙ rw (cut .0, p) in
       rw (one .1, ← cut .1, cut .0, r, p, proxy, rank, pan) (joining other address network four′ eight′ few)
 
@@ -300,33 +239,23 @@ pub reserved-joining-bits-do-not-count : ReservedJoiningBitsDoNotCount
 reserved-joining-bits-do-not-count before word other content _ _ rest found b p four four′ top low (one-element l h d) (one-element l′ h′ d′) list short =
     let lists : (low high : ℕ) (c : List ℕ) → Descriptor 11 low high (suc (length c)) 5 1 → PayloadElements (low ∷ high ∷ 2 ∷ (c ++ rest)) (record { kind = 258; content = c } ∷ found) =
     λ low high c d. payload-element low high 5 (2 ∷ c) d (λ (z : _≡_ {A = ℕ} 5 15). omega arith) (ietf-element 2 c) list in
-    let same : (k : ℕ) → (258 ≡ k → ⊥) → contents k (p .found ++ (record { kind = 258; content = word ++ content } ∷ found)) ≡ contents k (p .found ++ (record { kind = 258; content = other ++ content } ∷ found)) =
-    elsewhere (p .found) found 258 (word ++ content) (other ++ content) in
+    let same = elsewhere (p .found) found 258 (word ++ content) (other ++ content) in
     replaced before p _ _ _ _ b (lists l h (word ++ content) d) (lists l′ h′ (other ++ content) d′)
-    (λ says. record {
-      synchronization = (says .synchronization .0, sym (same 26 (λ (z : _≡_ {A = ℕ} 258 26). omega arith)) ∙ says .synchronization .1, says .synchronization .2);
-      timeslot = (says .timeslot .0, sym (same 28 (λ (z : _≡_ {A = ℕ} 258 28). omega arith)) ∙ says .timeslot .1, says .timeslot .2);
-      hopping = (says .hopping .0, sym (same 137 (λ (z : _≡_ {A = ℕ} 258 137). omega arith)) ∙ says .hopping .1, says .hopping .2);
-      slotframe = (says .slotframe .0, sym (same 27 (λ (z : _≡_ {A = ℕ} 258 27). omega arith)) ∙ says .slotframe .1, says .slotframe .2);
-      joining = rw (here (p .found) found 258 (other ++ content)) (joining-changed word other content four four′ top low _ _ (says .joining) (contents 258 (p .found)) (contents 258 found) (here (p .found) found 258 (word ++ content)));
-    }) short
+    (says-but _ _ b (λ k known not-28 not-258. same k not-258) (λ t. rw (← same 28 (λ z. omega arith)) t)
+    (λ j. rw (here (p .found) found 258 (other ++ content)) (joining-changed word other content four four′ top low _ _ j (contents 258 (p .found)) (contents 258 found) (here (p .found) found 258 (word ++ content))))) short
 
 -- ---- the two forms of timings
 other-timings : (c : List ℕ) (t u : TimeslotTemplate) → TimeslotContent c t → TimeslotContent c u → t ≡ u
 other-timings c t u one other = let h = stands-whole c c refl in timeslot-value c 0 c t one h ∙ sym (timeslot-value c 0 c u other h)
 
 timings-changed : (h f : List Element) (c d : List ℕ) (u : TimeslotTemplate) (b : Beacon) → TimeslotContent c u → TimeslotContent d u → Says (h ++ (record { kind = 28; content = c } ∷ f)) b → Says (h ++ (record { kind = 28; content = d } ∷ f)) b
-timings-changed h f c d u b was is says =
-    let same : (k : ℕ) → (28 ≡ k → ⊥) → contents k (h ++ (record { kind = 28; content = c } ∷ f)) ≡ contents k (h ++ (record { kind = 28; content = d } ∷ f)) = elsewhere h f 28 c d in
-    let one = only-one (says .timeslot .0) c d (contents 28 h) (contents 28 f) (sym (here h f 28 c) ∙ says .timeslot .1) in
-    let t-is : u ≡ b .timeslot = other-timings c u (b .timeslot) was (rw (one .0) (says .timeslot .2)) in
-    record {
-      synchronization = (says .synchronization .0, sym (same 26 (λ (z : _≡_ {A = ℕ} 28 26). omega arith)) ∙ says .synchronization .1, says .synchronization .2);
-      timeslot = (d, here h f 28 d ∙ one .1, subst (λ t. TimeslotContent d t) t-is is);
-      hopping = (says .hopping .0, sym (same 137 (λ (z : _≡_ {A = ℕ} 28 137). omega arith)) ∙ says .hopping .1, says .hopping .2);
-      slotframe = (says .slotframe .0, sym (same 27 (λ (z : _≡_ {A = ℕ} 28 27). omega arith)) ∙ says .slotframe .1, says .slotframe .2);
-      joining = rw (← same 258 (λ (z : _≡_ {A = ℕ} 28 258). omega arith)) (says .joining);
-    }
+timings-changed h f c d u b was is =
+    let same = elsewhere h f 28 c d in
+    says-but _ _ b (λ k known not-28 not-258. same k not-28)
+    (λ t.
+    let one = only-one (t .0) c d (contents 28 h) (contents 28 f) (sym (t .1) ∙ here h f 28 c) in
+    (d, here h f 28 d ∙ one .1, subst (λ t. TimeslotContent d t) (other-timings c u (b .timeslot) was (rw (← one .0) (t .2))) is))
+    (λ j. rw (← same 258 (λ z. omega arith)) j)
 
 regroup : (h u : List Element) (x : Element) (v f : List Element) → h ++ ((u ++ (x ∷ v)) ++ f) ≡ (h ++ u) ++ (x ∷ (v ++ f))
 regroup h u x v f = ap (λ (l : List Element). h ++ l) (append-assoc u (x ∷ v) f) ∙ sym (append-assoc h u (x ∷ (v ++ f)))

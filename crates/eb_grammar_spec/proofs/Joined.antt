@@ -3,6 +3,7 @@ use Prim.Native.Nat.{ℕ, suc, _+_, _-_, _*_, _/_, _%_, _≤_}
 use mathlib.Core.Path.{_≡_, refl, sym, _∙_, ap, subst}
 use mathlib.Core.Bool.{true}
 use mathlib.Core.List.{List, [], _∷_, _++_}
+use mathlib.Core.Logic.{inl, inr}
 use native.Mathlib.Nat.{add-sub-cancel-left}
 use native.Mathlib.Omega.{arith}
 use borrow.Author.Tests.{eqb-true, eqb-false}
@@ -23,7 +24,7 @@ use Rattle.eb_grammar_spec.proofs.Stands.{Stands, stands-first, stands-
 use Rattle.eb_grammar_spec.specs.Row.{be, bits}
 use Rattle.eb_grammar_spec.specs.Grammar.{JoiningContent, absent, joining}
 use Rattle.eb_grammar_spec.proofs.Slices.{part, part-at, part-append, part-stands, length-part, be-stands, be-part}
-use Rattle.eb_grammar_spec.proofs.Notes.{unseen}
+use Rattle.eb_grammar_spec.proofs.Notes.{unseen, Kept}
 use Rattle.eb_grammar_spec.proofs.Rowed.{countFrom, padded-count}
 
 -- what the grammar reads off joining information
@@ -121,16 +122,15 @@ module _ (s : List ℕ) (bytes : Bytes s) (at : ℕ) where
       rw is (subst (λ j. JoiningContent ((word ++ (address ++ network)) ∷ []) j) (joins-value word address network four eight few (rw is at h) some) (joining word address network four eight few))
 
 -- ---- a list with one entry
-pub single : {A : Type 0} (x c : A) (before after : List A) → x ∷ [] ≡ before ++ (c ∷ after) → (before ≡ []) × (x ≡ c)
-single x c [] after e = (refl, ap (λ l. getD l 0 x) e)
-single x c (y ∷ before) after e =
-    let longer : _≡_ {A = ℕ} 1 (suc (length (before ++ (c ∷ after)))) = ap length e in
-    absurd (omega (arith, longer, length-append before (c ∷ after)))
-
 pub no-entry : {A : Type 0} (c : A) (before after : List A) → [] ≡ before ++ (c ∷ after) → ⊥
 no-entry c before after e =
     let longer : _≡_ {A = ℕ} 0 (length (before ++ (c ∷ after))) = ap length e in
     omega (arith, longer, length-append before (c ∷ after))
+
+pub single : {A : Type 0} (x c : A) (before after : List A) → x ∷ [] ≡ before ++ (c ∷ after) → (before ≡ []) × (x ≡ c) × (after ≡ [])
+single x c [] [] e = (refl, cc, refl)
+single x c [] (y ∷ after) e = absurd (no-entry y [] after (cc))
+single x c (y ∷ before) after e = absurd (no-entry c before after (cc))
 
 module _ (s : List ℕ) (bytes : Bytes s) where
   pub joining-fine : (cs : List (List ℕ)) (j : JoiningInformation) → JoiningContent cs j → (c : List ℕ) (before after : List (List ℕ)) → cs ≡ before ++ (c ∷ after)
@@ -141,12 +141,10 @@ module _ (s : List ℕ) (bytes : Bytes s) where
       (one .0, λ from. subst (λ xs. Stands s from xs → partFault s 258 from (from + length xs) unseen ≡ 0) (one .1) (joins-fine s bytes from word address network four eight few))
 
   -- what is noted of it is read as what it says
-  pub joining-value-none : (cs : List (List ℕ)) (j : JoiningInformation) → JoiningContent cs j → cs ≡ [] → (at to : ℕ) → at ≡ 0 → j ≡ joiningAt s at to
-  joining-value-none _ _ absent e at to z = joining-absent s at to blankJoining refl z
-  joining-value-none _ _ (joining word address network four eight few) e at to z = absurd (no-entry _ [] [] (sym e))
-
-  pub joining-value-one : (cs : List (List ℕ)) (j : JoiningInformation) → JoiningContent cs j → (c : List ℕ) → cs ≡ c ∷ [] → (at to : ℕ) → (at ≡ 0 → ⊥) → to ≡ at + length c → Stands s at c → j ≡ joiningAt s at to
-  joining-value-one _ _ absent c e at to some ends h = absurd (no-entry c [] [] e)
-  joining-value-one _ _ (joining word address network four eight few) c e at to some ends h =
-      let one : word ++ (address ++ network) ≡ c = single _ c [] [] e .1 in
-      rw (ends, ← one) (joins-value s bytes at word address network four eight few (rw (← one) at h) some)
+  pub joining-value : (cs : List (List ℕ)) (j : JoiningInformation) → JoiningContent cs j → (at to : ℕ) → Kept s 258 at to cs → j ≡ joiningAt s at to
+  joining-value _ _ absent at to (inl none) = joining-absent s at to blankJoining refl (none .0)
+  joining-value _ _ absent at to (inr one) = absurd (no-entry _ [] [] (one .only))
+  joining-value _ _ (joining word address network four eight few) at to (inl none) = absurd (no-entry _ [] [] (sym (none .1)))
+  joining-value _ _ (joining word address network four eight few) at to (inr one) =
+      let same : word ++ (address ++ network) ≡ one .content = single _ _ [] [] (one .only) .1 in
+      rw (one .ends, ← same) (joins-value s bytes at word address network four eight few (rw (← same) at (one .stands)) (one .some))

@@ -1,15 +1,16 @@
 -- What a walk noted, against the elements that were found: each place holds the content of the one element of its kind, which passed the
 -- tests of its kind. Assumes nothing.
-use Prim.Native.Nat.{ℕ, _+_, _≤_}
+use Prim.Native.Nat.{ℕ, _+_, _-_, _/_, _%_, _≤_}
 use mathlib.Core.Path.{_≡_, refl, sym, _∙_, ap}
 use mathlib.Core.List.{List, [], _∷_, _++_, append-nil}
 use mathlib.Core.Logic.{_⊎_, inl, inr}
 use native.Mathlib.Omega.{arith}
 use lib.Dec.{eqb}
-use lib.ListN.{length}
+use lib.ListN.{length, getD}
 use borrow.Author.Tests.{eqb-true}
 use Rattle.octets_spec.specs.Choice.{ifEq}
-use Rattle.octets_spec.proofs.ChoiceLaws.{if-ne, by-test, was-eq, was-ne, was-ge, was-off}
+use Rattle.octets_spec.proofs.ChoiceLaws.{if-eq, if-ne, by-test, was-eq, was-ne, was-ge, was-off}
+use Rattle.refusal.specs.Refusal.{missingOrTwice}
 use Rattle.ie_verdict_spec.specs.Verdict.{onceOnly, syncFault, timeslotFault, hoppingFault, slotframeFault, slotframeFaultAt, joiningFault, partFault}
 use Rattle.ie_verdict_spec.specs.declared.Seen.{Seen}
 use Rattle.ie_walk_spec.specs.Walk.{blankWalk, seenOf, skipOne, taken}
@@ -26,59 +27,60 @@ unfolding contents ifEq
 contents-append kind [] ys = refl
 contents-append kind (x ∷ xs) ys = by-test (eqb (x .kind) kind) (λ t. rw (t, contents-append kind xs ys)) (λ t. rw (t, contents-append kind xs ys))
 
+pub contents-here : (h f : List Element) (x : Element) (k : ℕ) → x .kind ≡ k → contents k (h ++ (x ∷ f)) ≡ contents k h ++ (x .content ∷ contents k f)
+unfolding contents
+contents-here h f x k e = contents-append k h (x ∷ f) ∙ ap (λ (cs : List (List ℕ)). contents k h ++ cs) (sym (if-eq _ _ _ _ e refl))
+
+pub contents-other : (h f : List Element) (x : Element) (k : ℕ) → (x .kind ≡ k → ⊥) → contents k (h ++ (x ∷ f)) ≡ contents k h ++ contents k f
+unfolding contents
+contents-other h f x k n = contents-append k h (x ∷ f) ∙ ap (λ (cs : List (List ℕ)). contents k h ++ cs) (sym (if-ne _ _ _ _ n refl))
+
 -- ---- no element of a kind was taken before
 abbrev pub unseen : Seen
 unseen = record { synchronization = 0; timeslot = 0; hopping = 0; slotframe = 0; joining = 0 }
 
-once : (seen : ℕ) → onceOnly seen ≡ 0 → seen ≡ 0
-unfolding onceOnly
-once seen e = was-eq _ _ _ _ _ e twice .0
+-- an element without a fault is the first of its kind
+module _ (s : List ℕ) (from size seen : ℕ) where
+  once : (r : ℕ) → ifEq seen 0 r missingOrTwice ≡ 0 → seen ≡ 0
+  once r e = was-eq _ _ _ _ _ e twice .0
 
-sync-fresh : (size seen : ℕ) → syncFault size seen ≡ 0 → seen ≡ 0
-unfolding syncFault
-sync-fresh size seen e = once seen (was-eq _ _ _ _ _ e wrong-shape .1)
+  abbrev First : ℕ → Type 0
+  First fault = fault ≡ 0 → seen ≡ 0
 
-timeslot-fresh : (size seen id : ℕ) → timeslotFault size seen id ≡ 0 → seen ≡ 0
-unfolding timeslotFault
-timeslot-fresh size seen id e = was-eq _ _ _ _ _ (was-off _ _ _ _ e wrong-shape .1) twice .0
+  firsts : First (syncFault size seen) × First (timeslotFault size seen (getD s from 0)) × First (hoppingFault size seen) × First (slotframeFaultAt s from size seen) × First (joiningFault size seen (getD s from 0 / 64 % 2))
+  unfolding onceOnly syncFault timeslotFault hoppingFault slotframeFaultAt slotframeFault joiningFault
+  firsts = (
+    λ e. once _ (was-eq _ _ _ _ _ e wrong-shape .1),
+    λ e. once _ (was-off _ _ _ _ e wrong-shape .1),
+    λ e. once _ (was-ne _ _ _ _ _ e wrong-shape .1),
+    each-eq First _ _ _ _ (λ shaped e. once _ e) (λ misshapen e. absurd (misshapen e)),
+    λ e. once _ (was-ge _ _ _ _ _ (was-ge _ _ _ _ _ (was-ge _ _ _ _ _ e wrong-shape .1) wrong-shape .1) wrong-shape .1),
+  )
 
-hopping-fresh : (size seen : ℕ) → hoppingFault size seen ≡ 0 → seen ≡ 0
-unfolding hoppingFault
-hopping-fresh size seen e = was-eq _ _ _ _ _ (was-ne _ _ _ _ _ e wrong-shape .1) twice .0
-
-slotframe-fresh : (s : List ℕ) (from size seen : ℕ) → slotframeFaultAt s from size seen ≡ 0 → seen ≡ 0
-unfolding slotframeFaultAt slotframeFault
-slotframe-fresh s from size seen =
-    each-eq (λ (n : ℕ). n ≡ 0 → seen ≡ 0) _ _ _ _ (λ shaped e. was-eq _ _ _ _ _ e twice .0) (λ misshapen e. absurd (misshapen e))
-
-joining-fresh : (size seen proxied : ℕ) → joiningFault size seen proxied ≡ 0 → seen ≡ 0
-unfolding joiningFault
-joining-fresh size seen proxied e = once seen (was-ge _ _ _ _ _ (was-ge _ _ _ _ _ (was-ge _ _ _ _ _ e wrong-shape .1) wrong-shape .1) wrong-shape .1)
+splits-by : (fault : ℕ → ℕ) (seen : ℕ) → (fault seen ≡ 0 → seen ≡ 0) → (fault seen ≡ 0 → (seen ≡ 0) × (fault 0 ≡ 0)) × (seen ≡ 0 → fault 0 ≡ 0 → fault seen ≡ 0)
+splits-by fault seen first = (λ e. let f = first e in (f, rw f at e), λ f e. rw f e)
 
 -- an element has no fault exactly when none of its kind was seen and it has none by itself
 module _ (s : List ℕ) (from to : ℕ) (seen : Seen) where
-  abbrev Splits : ℕ → ℕ → Type 0
-  Splits kind before = (partFault s kind from to seen ≡ 0 → (before ≡ 0) × (partFault s kind from to unseen ≡ 0)) × (before ≡ 0 → partFault s kind from to unseen ≡ 0 → partFault s kind from to seen ≡ 0)
+  abbrev Split : ℕ → ℕ → Type 0
+  Split kind before = (partFault s kind from to seen ≡ 0 → (before ≡ 0) × (partFault s kind from to unseen ≡ 0)) × (before ≡ 0 → partFault s kind from to unseen ≡ 0 → partFault s kind from to seen ≡ 0)
 
-  pub split-sync : Splits 26 (seen .synchronization)
-  unfolding partFault ifEq
-  split-sync = (λ e. let f : seen .synchronization ≡ 0 = sync-fresh _ _ e in (f, rw f at e), λ f e. rw f e)
+  pub record Splits : Type 0 where
+    pub synchronization : Split 26 (seen .synchronization)
+    pub timeslot : Split 28 (seen .timeslot)
+    pub hopping : Split 137 (seen .hopping)
+    pub slotframe : Split 27 (seen .slotframe)
+    pub joining : Split 258 (seen .joining)
 
-  pub split-timeslot : Splits 28 (seen .timeslot)
+  pub splits : Splits
   unfolding partFault ifEq
-  split-timeslot = (λ e. let f : seen .timeslot ≡ 0 = timeslot-fresh _ _ _ e in (f, rw f at e), λ f e. rw f e)
-
-  pub split-hopping : Splits 137 (seen .hopping)
-  unfolding partFault ifEq
-  split-hopping = (λ e. let f : seen .hopping ≡ 0 = hopping-fresh _ _ e in (f, rw f at e), λ f e. rw f e)
-
-  pub split-slotframe : Splits 27 (seen .slotframe)
-  unfolding partFault ifEq
-  split-slotframe = (λ e. let f : seen .slotframe ≡ 0 = slotframe-fresh s from _ _ e in (f, rw f at e), λ f e. rw f e)
-
-  pub split-joining : Splits 258 (seen .joining)
-  unfolding partFault ifEq
-  split-joining = (λ e. let f : seen .joining ≡ 0 = joining-fresh _ _ _ e in (f, rw f at e), λ f e. rw f e)
+  splits = record {
+    synchronization = splits-by (λ n. syncFault (to - from) n) _ (firsts s from (to - from) _ .0);
+    timeslot = splits-by (λ n. timeslotFault (to - from) n (getD s from 0)) _ (firsts s from (to - from) _ .1);
+    hopping = splits-by (λ n. hoppingFault (to - from) n) _ (firsts s from (to - from) _ .2);
+    slotframe = splits-by (λ n. slotframeFaultAt s from (to - from) n) _ (firsts s from (to - from) _ .3);
+    joining = splits-by (λ n. joiningFault (to - from) n (getD s from 0 / 64 % 2)) _ (firsts s from (to - from) _ .4);
+  }
 
 -- ---- what is noted of a kind: nothing, or the place of the only element
 pub record One (s : List ℕ) (kind p e : ℕ) (cs : List (List ℕ)) : Type 0 where
@@ -92,70 +94,48 @@ pub record One (s : List ℕ) (kind p e : ℕ) (cs : List (List ℕ)) : Type 0 w
 abbrev pub Kept : List ℕ → ℕ → ℕ → ℕ → List (List ℕ) → Type 0
 Kept s kind p e cs = ((p ≡ 0) × (cs ≡ [])) ⊎ One s kind p e cs
 
-pub record Notes (s : List ℕ) (w : Walk) (found : List Element) : Type 0 where
-  pub synchronization-end : ℕ
-  pub hopping-end : ℕ
-  pub slotframe-end : ℕ
-  pub synchronization : Kept s 26 (w .synchronization) synchronization-end (contents 26 found)
-  pub timeslot : Kept s 28 (w .timeslot) (w .timeslotend) (contents 28 found)
-  pub hopping : Kept s 137 (w .hopping) hopping-end (contents 137 found)
-  pub slotframe : Kept s 27 (w .slotframe) slotframe-end (contents 27 found)
-  pub joining : Kept s 258 (w .joining) (w .joiningend) (contents 258 found)
+-- what is noted of each kind at the offsets that a walk keeps: of three kinds it keeps no end
+pub record NotesAt (s : List ℕ) (synchronization-at timeslot-at timeslot-end hopping-at slotframe-at joining-at joining-end : ℕ) (found : List Element) : Type 0 where
+  pub synchronization : (e : ℕ) × Kept s 26 synchronization-at e (contents 26 found)
+  pub timeslot : Kept s 28 timeslot-at timeslot-end (contents 28 found)
+  pub hopping : (e : ℕ) × Kept s 137 hopping-at e (contents 137 found)
+  pub slotframe : (e : ℕ) × Kept s 27 slotframe-at e (contents 27 found)
+  pub joining : Kept s 258 joining-at joining-end (contents 258 found)
+
+abbrev pub Notes : List ℕ → Walk → List Element → Type 0
+Notes s w found = NotesAt s (w .synchronization) (w .timeslot) (w .timeslotend) (w .hopping) (w .slotframe) (w .joining) (w .joiningend) found
 
 pub notes-none : (s : List ℕ) → Notes s blankWalk []
 unfolding blankWalk contents
 notes-none s = record {
-  synchronization-end = 0;
-  hopping-end = 0;
-  slotframe-end = 0;
-  synchronization = inl (refl, refl);
+  synchronization = (0, inl (refl, refl));
   timeslot = inl (refl, refl);
-  hopping = inl (refl, refl);
-  slotframe = inl (refl, refl);
+  hopping = (0, inl (refl, refl));
+  slotframe = (0, inl (refl, refl));
   joining = inl (refl, refl);
 }
 
 -- the count of elements that are skipped does not matter
-abbrev counted : ℕ → Walk → Walk
-counted count w = record { fault = w .fault; faulty = w .faulty; skipped = count; synchronization = w .synchronization; timeslot = w .timeslot; timeslotend = w .timeslotend; hopping = w .hopping; slotframe = w .slotframe; joining = w .joining; joiningend = w .joiningend }
-
-notes-counted : (s : List ℕ) (w : Walk) (count : ℕ) (found : List Element) → Notes s w found → Notes s (counted count w) found
-notes-counted s w count found n = record {
-  synchronization-end = n .synchronization-end;
-  hopping-end = n .hopping-end;
-  slotframe-end = n .slotframe-end;
-  synchronization = n .synchronization;
-  timeslot = n .timeslot;
-  hopping = n .hopping;
-  slotframe = n .slotframe;
-  joining = n .joining;
-}
-
 pub notes-before : (s : List ℕ) (w : Walk) (count : ℕ) (found : List Element) → Notes s w found → Notes s (skippedBefore count w) found
 unfolding skippedBefore
-notes-before s w count found n = notes-counted s w _ found n
+notes-before s w count found n = n
 
 pub notes-skip : (s : List ℕ) (w : Walk) (found : List Element) → Notes s w found → Notes s (skipOne w) found
 unfolding skipOne
-notes-skip s w found n = notes-counted s w _ found n
+notes-skip s w found n = n
 
 -- an element of another kind changes nothing
-contents-other : (k : ℕ) (found : List Element) (x : Element) → (x .kind ≡ k → ⊥) → contents k (found ++ (x ∷ [])) ≡ contents k found
-unfolding contents
-contents-other k found x n =
-    contents-append k found (x ∷ []) ∙ (ap (λ (cs : List (List ℕ)). contents k found ++ cs) (sym (if-ne _ _ _ _ n refl)) ∙ append-nil (contents k found))
-
 pub notes-other : (s : List ℕ) (w : Walk) (found : List Element) (x : Element) → (x .kind ≡ 258 → ⊥) → 256 ≤ x .kind → Notes s w found → Notes s w (found ++ (x ∷ []))
-notes-other s w found x n high k = record {
-  synchronization-end = k .synchronization-end;
-  hopping-end = k .hopping-end;
-  slotframe-end = k .slotframe-end;
-  synchronization = rw (contents-other 26 found x (λ (z : x .kind ≡ 26). omega arith)) (k .synchronization);
-  timeslot = rw (contents-other 28 found x (λ (z : x .kind ≡ 28). omega arith)) (k .timeslot);
-  hopping = rw (contents-other 137 found x (λ (z : x .kind ≡ 137). omega arith)) (k .hopping);
-  slotframe = rw (contents-other 27 found x (λ (z : x .kind ≡ 27). omega arith)) (k .slotframe);
-  joining = rw (contents-other 258 found x n) (k .joining);
-}
+unfolding contents
+notes-other s w found x n high k =
+    let same : (k : ℕ) → (x .kind ≡ k → ⊥) → contents k (found ++ (x ∷ [])) ≡ contents k found = λ k n. contents-other found [] x k n ∙ append-nil (contents k found) in
+    record {
+      synchronization = rw (same 26 (λ z. omega arith)) (k .synchronization);
+      timeslot = rw (same 28 (λ z. omega arith)) (k .timeslot);
+      hopping = rw (same 137 (λ z. omega arith)) (k .hopping);
+      slotframe = rw (same 27 (λ z. omega arith)) (k .slotframe);
+      joining = rw (same 258 n) (k .joining);
+    }
 
 -- an element that was taken is noted
 module _ (s : List ℕ) (found : List Element) (kind from : ℕ) (c : List ℕ) (some : from ≡ 0 → ⊥) (stands : Stands s from c) where
@@ -178,12 +158,9 @@ module _ (s : List ℕ) (found : List Element) (kind from : ℕ) (c : List ℕ) 
   pub notes-taken : (w : Walk) → partFault s kind from (from + length c) (seenOf w) ≡ 0 → Notes s w found → Notes s (taken w kind from (from + length c)) (found ++ (x ∷ []))
   unfolding taken seenOf
   notes-taken w fine n = record {
-    synchronization-end = ifEq kind 26 (from + length c) (n .synchronization-end);
-    hopping-end = ifEq kind 137 (from + length c) (n .hopping-end);
-    slotframe-end = ifEq kind 27 (from + length c) (n .slotframe-end);
-    synchronization = keeps 26 _ _ (n .synchronization) (λ e. split-sync s from _ (seenOf w) .0 (rw e at fine));
-    timeslot = keeps 28 _ _ (n .timeslot) (λ e. split-timeslot s from _ (seenOf w) .0 (rw e at fine));
-    hopping = keeps 137 _ _ (n .hopping) (λ e. split-hopping s from _ (seenOf w) .0 (rw e at fine));
-    slotframe = keeps 27 _ _ (n .slotframe) (λ e. split-slotframe s from _ (seenOf w) .0 (rw e at fine));
-    joining = keeps 258 _ _ (n .joining) (λ e. split-joining s from _ (seenOf w) .0 (rw e at fine));
+    synchronization = (_, keeps 26 _ _ (n .synchronization .1) (λ e. splits s from _ (seenOf w) .synchronization .0 (rw e at fine)));
+    timeslot = keeps 28 _ _ (n .timeslot) (λ e. splits s from _ (seenOf w) .timeslot .0 (rw e at fine));
+    hopping = (_, keeps 137 _ _ (n .hopping .1) (λ e. splits s from _ (seenOf w) .hopping .0 (rw e at fine)));
+    slotframe = (_, keeps 27 _ _ (n .slotframe .1) (λ e. splits s from _ (seenOf w) .slotframe .0 (rw e at fine)));
+    joining = keeps 258 _ _ (n .joining) (λ e. splits s from _ (seenOf w) .joining .0 (rw e at fine));
   }

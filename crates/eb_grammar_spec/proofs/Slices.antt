@@ -1,12 +1,15 @@
 -- The bytes at a place as a list of their own: the bridge from places to a grammar and back. Assumes nothing.
-use Prim.Native.Nat.{ℕ, zero, suc, _+_, _-_, _≤_}
-use mathlib.Core.Path.{_≡_, refl, ap}
+use Prim.Native.Nat.{ℕ, zero, suc, _+_, _-_, _*_, _/_, _%_, _^_, _≤_}
+use mathlib.Core.Path.{_≡_, refl, _∙_, ap}
 use mathlib.Core.List.{List, [], _∷_, _++_}
+use native.Mathlib.Nat.{mul-comm, mul-assoc, add-mul, div-div-eq-div-mul}
 use native.Mathlib.Omega.{arith}
+use lib.Arith.{digits-div, digits-mod}
 use lib.ListN.{length, getD}
 use Rattle.octets_spec.specs.Number.{leAt, beAt}
 use Rattle.eb_grammar_spec.proofs.Stands.{Stands}
 use Rattle.eb_grammar_spec.specs.Row.{le, be}
+use Rattle.eb_grammar_spec.specs.Grammar.{Descriptor}
 
 unfoldable pub part : List ℕ → ℕ → ℕ → List ℕ
 part s at zero = []
@@ -43,16 +46,6 @@ module _ (s : List ℕ) where
   part-stands at [] h = refl
   part-stands at (x ∷ xs) h = rw (h .0, ← part-stands (suc at) xs (h .1))
 
-  pub le-stands : (at : ℕ) (xs : List ℕ) → Stands s at xs → le xs ≡ leAt (length xs) s at
-  unfolding le leAt Stands
-  le-stands at [] h = refl
-  le-stands at (x ∷ xs) h = let one : at + 1 ≡ suc at = omega arith in rw (leAt, one, h .0, le-stands (suc at) xs (h .1))
-
-  pub be-stands : (at : ℕ) (xs : List ℕ) → Stands s at xs → be xs ≡ beAt (length xs) s at
-  unfolding be beAt Stands
-  be-stands at [] h = refl
-  be-stands at (x ∷ xs) h = let one : at + 1 ≡ suc at = omega arith in rw (beAt, one, h .0, be-stands (suc at) xs (h .1))
-
   pub le-part : (n at : ℕ) → le (part s at n) ≡ leAt n s at
   unfolding part le leAt
   le-part zero at = refl
@@ -63,11 +56,28 @@ module _ (s : List ℕ) where
   be-part zero at = refl
   be-part (suc n) at = let one : at + 1 ≡ suc at = omega arith in rw (beAt, one, be-part n (suc at), length-part (suc at) n)
 
+  pub le-stands : (at : ℕ) (xs : List ℕ) → Stands s at xs → le xs ≡ leAt (length xs) s at
+  le-stands at xs h = ap le (part-stands at xs h) ∙ le-part (length xs) at
+
+  pub be-stands : (at : ℕ) (xs : List ℕ) → Stands s at xs → be xs ≡ beAt (length xs) s at
+  be-stands at xs h = ap be (part-stands at xs h) ∙ be-part (length xs) at
+
   -- an element: its two descriptor bytes, its content, and what stands behind it
-  pub part-element : (at size to : ℕ) → at + 2 + size ≤ to → part s at (to - at) ≡ getD s at 0 ∷ getD s (at + 1) 0 ∷ (part s (at + 2) size ++ part s (at + 2 + size) (to - (at + 2 + size)))
+  pub part-element : (at size to end : ℕ) → to ≡ at + 2 + size → to ≤ end → part s at (end - at) ≡ getD s at 0 ∷ getD s (at + 1) 0 ∷ (part s (at + 2) size ++ part s to (end - to))
   unfolding part
-  part-element at size to h =
-      let e : to - at ≡ suc (suc (size + (to - (at + 2 + size)))) = omega arith in
+  part-element at size to end is h =
+      let e : end - at ≡ suc (suc (size + (end - to))) = omega arith in
       let one : suc at ≡ at + 1 = omega arith in
       let two : suc (at + 1) ≡ at + 2 = omega arith in
-      rw (e, part, one, two) (ap (λ (xs : List ℕ). getD s at 0 ∷ getD s (at + 1) 0 ∷ xs) (part-append (at + 2) size _))
+      rw (e, part, one, two) (ap (λ (xs : List ℕ). getD s at 0 ∷ getD s (at + 1) 0 ∷ xs) (rw (← is) at (part-append (at + 2) size (end - to))))
+
+-- ---- the two bytes of a descriptor, taken apart: a length, an ID, bit 15
+pub described : {split low high size id top : ℕ} → Descriptor split low high size id top → 2 ^ split * 2 ^ (15 - split) ≡ 32768
+    → (le (low ∷ high ∷ []) % 2 ^ split ≡ size) × (le (low ∷ high ∷ []) / 2 ^ split % 2 ^ (15 - split) ≡ id) × (le (low ∷ high ∷ []) / 32768 ≡ top)
+described {split} {low} {high} {size} {id} {top} d whole =
+    let p : ℕ = 2 ^ split in
+    let q : ℕ = 2 ^ (15 - split) in
+    let digits : 32768 * top ≡ top * q * p = rw (← whole, mul-comm p q, mul-comm (q * p) top, mul-assoc top q p) in
+    let is : le (low ∷ high ∷ []) ≡ (top * q + id) * p + size = d .parts ∙ omega (arith, digits, add-mul (top * q) id p, mul-comm id p) in
+    let above : le (low ∷ high ∷ []) / p ≡ top * q + id = rw is (digits-div (top * q + id) (d .length-fits)) in
+    (rw is (digits-mod (top * q + id) (d .length-fits)), rw above (digits-mod top (d .id-fits)), rw (← whole, ← div-div-eq-div-mul, above) (digits-div top (d .id-fits)))

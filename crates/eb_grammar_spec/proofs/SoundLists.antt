@@ -21,7 +21,7 @@ use Rattle.ie_walk_spec.specs.declared.Walk.{Walk}
 use Rattle.eb_read_spec.specs.Claims.{Bytes}
 use Rattle.eb_read_spec.proofs.Each.{each-eq}
 use Rattle.eb_grammar_spec.specs.Grammar.{Descriptor, Element, SubElements, group-end, sub-element, PayloadElements, bytes-end, payload-end, payload-element, mlme, ietf-element, other-group, HeaderElements, header-end, header-element}
-use Rattle.eb_grammar_spec.proofs.Slices.{part, length-part, part-at, stands-part, part-element}
+use Rattle.eb_grammar_spec.proofs.Slices.{part, length-part, part-at, part-cons, stands-part, part-element}
 use Rattle.eb_grammar_spec.proofs.SaidSteps.{InnerSays, Ietf, Skipped, OuterSays, HeaderSays, inner-says, outer-says, header-says}
 use Rattle.eb_grammar_spec.proofs.Notes.{Notes, notes-none, notes-skip, notes-other, notes-taken}
 
@@ -34,16 +34,6 @@ part-took s w kind from to at =
     each-eq (λ (t : Walk). t .fault ≡ 0 → (fault ≡ 0) × (taken w kind from to ≡ t)) _ _ _ _ (λ e _. (e, refl)) (λ bad e. absurd (bad e))
 
 module _ (s : List ℕ) (bytes : Bytes s) where
-  -- an IETF element: its subtype stands before its content
-  part-ietf : (at size n end : ℕ) → size ≡ suc n → at + 2 + size ≤ end
-      → part s at (end - at) ≡ getD s at 0 ∷ getD s (at + 1) 0 ∷ getD s (at + 2) 0 ∷ (part s (at + 2 + 1) n ++ part s (at + 2 + size) (end - (at + 2 + size)))
-  unfolding part
-  part-ietf at size n end e h =
-      let behind : List ℕ = part s (at + 2 + size) (end - (at + 2 + size)) in
-      let one : suc (at + 2) ≡ at + 2 + 1 = omega arith in
-      let first : part s (at + 2) size ≡ getD s (at + 2) 0 ∷ part s (at + 2 + 1) n = rw (e, part, one) in
-      part-element s at size end h ∙ ap (λ (xs : List ℕ). getD s at 0 ∷ getD s (at + 1) 0 ∷ (xs ++ behind)) first
-
   -- a part that was taken is noted
   note-part : (w : Walk) (found : List Element) (kind from to f size : ℕ) → from ≡ f → to ≡ f + size → (f ≡ 0 → ⊥) → f + size ≤ length s → Notes s w found → partFault s kind from to (seenOf w) ≡ 0
       → Notes s (taken w kind from to) (found ++ (record { kind = kind; content = part s f size } ∷ []))
@@ -75,23 +65,21 @@ module _ (s : List ℕ) (bytes : Bytes s) where
       outer-ends : (end ≤ at) ⊎ ((at + 2 ≤ end) × Descriptor 11 (getD s at 0) (getD s (at + 1) 0) 0 15 1) → OuterGives at end found w
       unfolding part
       outer-ends (inl none) = let e : end - at ≡ 0 = omega arith in record { more = []; list = rw e bytes-end; notes = rw (append-nil found) n }
-      outer-ends (inr (room, d)) = record { more = []; list = rw (part-element s at 0 end (omega arith)) (payload-end _ _ _ d); notes = rw (append-nil found) n }
+      outer-ends (inr (room, d)) = record { more = []; list = rw (part-element s at 0 (at + 2) end (omega arith) room) (payload-end _ _ _ d); notes = rw (append-nil found) n }
 
-      -- what stands behind an element
-      behind : (to size : ℕ) (x : Element) (r : Walk) → to ≡ at + 2 + size → ((rest : List ℕ) → (found : List Element) → rest ≡ part s (at + 2 + size) (end - (at + 2 + size)) → PayloadElements rest found → PayloadElements (part s at (end - at)) (x ∷ found))
-          → OuterGives to end (found ++ (x ∷ [])) r → OuterGives at end found r
-      behind to size x r e grow g = record {
-        more = x ∷ g .more;
-        list = grow _ _ (part-at s to (at + 2 + size) _ _ e (rw e)) (g .list);
-        notes = rw (append-snoc found x (g .more)) at (g .notes);
-      }
-
-      ietf-grows : (size subtype : ℕ) → at + 2 + size ≤ end → Ietf s at (getD s at 0) (getD s (at + 1) 0) size → getD s (at + 2) 0 ≡ subtype → (rest : List ℕ) → (found : List Element) → rest ≡ part s (at + 2 + size) (end - (at + 2 + size)) → PayloadElements rest found
-          → PayloadElements (part s at (end - at)) (record { kind = 256 + subtype; content = part s (at + 2 + 1) (size - 1) } ∷ found)
-      ietf-grows size subtype room (some, d) is rest found e list =
+      -- an IETF element, its subtype before its content, and what stands behind it
+      ietf-grows : (size to subtype : ℕ) (r : Walk) → to ≡ at + 2 + size → to ≤ end → Ietf s at (getD s at 0) (getD s (at + 1) 0) size → getD s (at + 2) 0 ≡ subtype
+          → OuterGives to end (found ++ (record { kind = 256 + subtype; content = part s (at + 2 + 1) (size - 1) } ∷ [])) r → OuterGives at end found r
+      ietf-grows size to subtype r ends fits (some, d) is g =
+          let c : List ℕ = part s (at + 2 + 1) (size - 1) in
           let one : size ≡ suc (size - 1) = omega arith in
-          rw (part-ietf at size (size - 1) end one room, is, ← e)
-          (payload-element (getD s at 0) (getD s (at + 1) 0) 5 (subtype ∷ part s (at + 2 + 1) (size - 1)) (let sized : suc (length (part s (at + 2 + 1) (size - 1))) ≡ size = omega (arith, length-part s (at + 2 + 1) (size - 1)) in rw sized d) (λ (z : _≡_ {A = ℕ} 5 15). omega arith) (ietf-element subtype (part s (at + 2 + 1) (size - 1))) list)
+          let sized : suc (length c) ≡ size = omega (arith, length-part s (at + 2 + 1) (size - 1)) in
+          let first : part s (at + 2) size ≡ subtype ∷ c = part-at s (at + 2) (at + 2) size (suc (size - 1)) refl one ∙ (part-cons s (at + 2) (size - 1) ∙ rw is) in
+          record {
+            more = record { kind = 256 + subtype; content = c } ∷ g .more;
+            list = rw (part-element s at size to end ends fits, first) (payload-element (getD s at 0) (getD s (at + 1) 0) 5 (subtype ∷ c) (rw sized d) (λ (z : _≡_ {A = ℕ} 5 15). omega arith) (ietf-element subtype c) (g .list));
+            notes = rw (append-snoc found (record { kind = 256 + subtype; content = c }) (g .more)) at (g .notes);
+          }
 
       outer-step : (o : OuterStep) → outerAt s at end ≡ o → OuterSays o s at end → outerGo (suc bound) s at end w .fault ≡ 0 → OuterGives at end found (outerGo (suc bound) s at end w)
       unfolding outerGo stopped
@@ -101,10 +89,9 @@ module _ (s : List ℕ) (bytes : Bytes s) where
           (λ good.
           let g = groups from to end w found (omega (arith, k .starts, k .ends)) (k .fits) high (omega (arith, k .starts, k .ends, k .fits)) n good in
           let inner = subst (λ xs. SubElements xs (g .inside)) (part-at s from (at + 2) (to - from) (k .size) (k .starts) (omega (arith, k .starts, k .ends))) (g .group) in
-          let list = subst (λ xs. PayloadElements xs (g .more)) (part-at s to (at + 2 + k .size) (end - to) (end - (at + 2 + k .size)) (k .ends) (omega (arith, k .ends))) (g .list) in
           record {
             more = g .inside ++ g .more;
-            list = rw (part-element s at (k .size) end (omega (arith, k .ends, k .fits))) (payload-element (getD s at 0) (getD s (at + 1) 0) 1 (part s (at + 2) (k .size)) (rw (length-part s (at + 2) (k .size)) (k .says)) (λ (z : _≡_ {A = ℕ} 1 15). omega arith) (mlme inner) list);
+            list = rw (part-element s at (k .size) to end (k .ends) (k .fits)) (payload-element (getD s at 0) (getD s (at + 1) 0) 1 (part s (at + 2) (k .size)) (rw (length-part s (at + 2) (k .size)) (k .says)) (λ (z : _≡_ {A = ℕ} 1 15). omega arith) (mlme inner) (g .list));
             notes = g .notes;
           })
       outer-step (outer.Joining from to) e (starts, l, is) =
@@ -117,7 +104,7 @@ module _ (s : List ℕ) (bytes : Bytes s) where
           let some = l .says .0 in
           let place : to ≡ at + 2 + 1 + (l .size - 1) = omega (arith, l .ends) in
           let noted = rw (took .1) at (note-part w found 258 from to (at + 2 + 1) (l .size - 1) starts place (λ z. omega (arith, z)) (omega (arith, place, l .fits, high)) n (took .0)) in
-          behind to (l .size) x _ (l .ends) (ietf-grows (l .size) 2 (omega (arith, l .ends, l .fits)) (l .says) is)
+          ietf-grows (l .size) to 2 _ (l .ends) (l .fits) (l .says) is
           (outers to end t (found ++ (x ∷ [])) (l .fits) high (omega (arith, l .ends, l .fits)) noted good))
           (λ bad good. absurd (bad good)))
       outer-step (outer.Skip to) e l = rw (e, outerGo) (λ good. skips (l .says) good)
@@ -129,14 +116,13 @@ module _ (s : List ℕ) (bytes : Bytes s) where
           skips (inl (there, not-2)) good =
               let subtype : ℕ = getD s (at + 2) 0 in
               let x : Element = record { kind = 256 + subtype; content = part s (at + 2 + 1) (l .size - 1) } in
-              behind to (l .size) x _ (l .ends) (ietf-grows (l .size) subtype (omega (arith, l .ends, l .fits)) there refl)
+              ietf-grows (l .size) to subtype _ (l .ends) (l .fits) there refl
               (go (found ++ (x ∷ [])) (notes-other s w found x (λ (z : 256 + subtype ≡ 258). not-2 (omega arith)) (omega arith) n) good)
           skips (inr (group, d, not-1, not-5, not-15)) good =
               let g = go found n good in
-              let list = subst (λ xs. PayloadElements xs (g .more)) (part-at s to (at + 2 + l .size) (end - to) (end - (at + 2 + l .size)) (l .ends) (omega (arith, l .ends))) (g .list) in
               record {
                 more = g .more;
-                list = rw (part-element s at (l .size) end (omega (arith, l .ends, l .fits))) (payload-element (getD s at 0) (getD s (at + 1) 0) group (part s (at + 2) (l .size)) (rw (length-part s (at + 2) (l .size)) d) not-15 (other-group not-1 not-5) list);
+                list = rw (part-element s at (l .size) to end (l .ends) (l .fits)) (payload-element (getD s at 0) (getD s (at + 1) 0) group (part s (at + 2) (l .size)) (rw (length-part s (at + 2) (l .size)) d) not-15 (other-group not-1 not-5) (g .list));
                 notes = g .notes;
               }
       outer-step (outer.Fault number) e k = rw (e, outerGo) (λ good. absurd (k good))
@@ -160,11 +146,10 @@ module _ (s : List ℕ) (bytes : Bytes s) where
           let took = part-took s w kind from next at taken-it in
           let noted = rw (took .1) at (note-part w found kind from next (at + 2) (l .size) (l .starts) (l .ends) (λ z. omega (arith, z)) (omega (arith, l .ends, l .fits, fit, high)) n (took .0)) in
           let g = groups next to end t (found ++ (x ∷ [])) (l .fits) fit high (omega (arith, l .ends, l .fits)) noted good in
-          let rest = subst (λ xs. SubElements xs (g .inside)) (part-at s next (at + 2 + l .size) (to - next) (to - (at + 2 + l .size)) (l .ends) (omega (arith, l .ends))) (g .group) in
           record {
             inside = x ∷ g .inside;
             more = g .more;
-            group = rw (part-element s at (l .size) to (omega (arith, l .ends, l .fits))) (sub-element (getD s at 0) (getD s (at + 1) 0) kind c {found = g .inside} (rw (length-part s (at + 2) (l .size)) (l .says)) rest);
+            group = rw (part-element s at (l .size) next to (l .ends) (l .fits)) (sub-element (getD s at 0) (getD s (at + 1) 0) kind c {found = g .inside} (rw (length-part s (at + 2) (l .size)) (l .says)) (g .group));
             list = g .list;
             notes = rw (append-snoc found x (g .inside ++ g .more)) at (g .notes);
           })
@@ -206,8 +191,7 @@ module _ (s : List ℕ) (bytes : Bytes s) where
         skips = header-end;
         follows = d;
         within = low;
-        splits = part-element s at 0 end (omega (arith, starts, low))
-            ∙ ap (λ (xs : List ℕ). getD s at 0 ∷ getD s (at + 1) 0 ∷ xs) (part-at s (at + 2 + 0) from (end - (at + 2 + 0)) (end - from) (omega (arith, starts)) (omega (arith, starts)));
+        splits = part-element s at 0 from end (omega (arith, starts)) low;
       })
   header-step bound at end go (header.Element id from to) e l =
       rw (e, headerGo) (λ some.
@@ -220,8 +204,8 @@ module _ (s : List ℕ) (bytes : Bytes s) where
         high = g .high;
         follows = g .follows;
         within = g .within;
-        splits = part-element s at (l .size) end (omega (arith, l .ends, l .fits))
-            ∙ ap (λ (xs : List ℕ). getD s at 0 ∷ getD s (at + 1) 0 ∷ xs) (ap (λ (xs : List ℕ). c ++ xs) (part-at s (at + 2 + l .size) to (end - (at + 2 + l .size)) (end - to) (sym (l .ends)) (omega (arith, l .ends)) ∙ g .splits) ∙ sym (append-assoc c (g .header) _));
+        splits = part-element s at (l .size) to end (l .ends) (l .fits)
+            ∙ ap (λ (xs : List ℕ). getD s at 0 ∷ getD s (at + 1) 0 ∷ xs) (ap (λ (xs : List ℕ). c ++ xs) (g .splits) ∙ sym (append-assoc c (g .header) _));
       })
   header-step bound at end go (header.Fault number) e k = rw (e, headerGo) (λ some. absurd (some refl))
 

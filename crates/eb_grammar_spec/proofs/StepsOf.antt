@@ -1,5 +1,5 @@
 -- Where an element of the grammar stands, the step of its list leads to it. Assumes nothing.
-use Prim.Native.Nat.{ℕ, _+_, _-_, _*_, _/_, _%_, _≤_}
+use Prim.Native.Nat.{ℕ, _+_, _-_, _/_, _≤_}
 use mathlib.Core.Path.{_≡_, refl}
 use mathlib.Core.List.{List, [], _∷_}
 use native.Mathlib.Omega.{arith}
@@ -16,57 +16,45 @@ use Rattle.ie_step_spec.proofs.StepLaws.{header-here, outer-here, inner-here}
 use Rattle.eb_grammar_spec.proofs.Stands.{Stands, stands-first}
 use Rattle.eb_grammar_spec.specs.Row.{le}
 use Rattle.eb_grammar_spec.specs.Grammar.{Descriptor, SubDescriptor, short-id, long-id}
-use Rattle.eb_grammar_spec.proofs.Slices.{le-stands}
+use Rattle.eb_grammar_spec.proofs.Slices.{le-stands, described}
 
 module _ (s : List ℕ) (at end a b : ℕ) (rest : List ℕ) (h : Stands s at (a ∷ b ∷ rest)) where
-  read : le (a ∷ b ∷ []) ≡ leAt 2 s at
+  abbrev w : ℕ
+  w = le (a ∷ b ∷ [])
+
+  read : w ≡ leAt 2 s at
   read = le-stands s at (a ∷ b ∷ []) (stands-first s (a ∷ b ∷ []) rest at h)
 
   module _ (size : ℕ) (room : at + 2 + size ≤ end) where
     short-step : (id : ℕ) → Descriptor 8 a b size id 0 → inner.Part id (at + 2) (at + 2 + size) ≡ innerAt s at end
     unfolding innerWord
     short-step id d =
-        let w : ℕ = size + 256 * id in
-        let is : w ≡ leAt 2 s at = omega (arith, d .parts, read) in
-        let top : w / 32768 ≡ 0 = omega (arith, d .length-fits, d .id-fits) in
-        let low : w % 256 ≡ size = omega (arith, d .length-fits) in
-        let high : w / 256 ≡ id = omega (arith, d .length-fits) in
-        inner-here s at end w (omega arith) (omega arith) is _
-        (if-eq _ _ (w / 32768) 0 top (rw (low, high) (if-ge _ _ (end - (at + 2)) size (omega arith) refl)))
-
-    long-facts : (id : ℕ) → Descriptor 11 a b size id 1 → (w : ℕ) × (w ≡ leAt 2 s at) × (w / 32768 ≡ 1) × (w % 2048 ≡ size) × (w / 2048 % 16 ≡ id)
-    long-facts id d =
-        let w : ℕ = size + 2048 * id + 32768 in
-        let high : w / 2048 ≡ id + 16 = omega (arith, d .length-fits) in
-        (w, omega (arith, d .parts, read), omega (arith, d .length-fits, d .id-fits), omega (arith, d .length-fits), rw high (omega (arith, d .id-fits)))
+        let f = described d refl in
+        let high : w / 256 ≡ id = omega (arith, f .1, f .2) in
+        inner-here s at end w (omega arith) (omega arith) read _ (if-eq _ _ (w / 32768) 0 (f .2) (rw (f .0, high) (if-ge _ _ (end - (at + 2)) size (omega arith) refl)))
 
     long-step : (id : ℕ) → Descriptor 11 a b size id 1 → inner.Part (128 + id) (at + 2) (at + 2 + size) ≡ innerAt s at end
     unfolding innerWord
     long-step id d =
-        let f = long-facts id d in
+        let f = described d refl in
         let one = f .2 in
-        inner-here s at end (f .0) (omega arith) (omega arith) (f .1) _
-        (if-ne _ _ (f .0 / 32768) 0 (λ z. omega (arith, one, z)) (rw (f .3, f .4) (if-ge _ _ (end - (at + 2)) size (omega arith) refl)))
+        inner-here s at end w (omega arith) (omega arith) read _ (if-ne _ _ (w / 32768) 0 (λ z. omega (arith, one, z)) (rw (f .0, f .1) (if-ge _ _ (end - (at + 2)) size (omega arith) refl)))
 
     pub group-step : (group : ℕ) (r : OuterStep) → Descriptor 11 a b size group 1 → (group ≡ 15 → ⊥) → r ≡ groupOf s group (at + 2) (at + 2 + size) → r ≡ outerAt s at end
     unfolding outerWord
     group-step group r d not-15 e =
-        let f = long-facts group d in
+        let f = described d refl in
         let one = f .2 in
-        outer-here s at end (f .0) (omega arith) (omega arith) (f .1) r
-        (rw (f .3, f .4) (if-ge _ _ (end - (at + 2)) size (omega arith) (if-ne _ _ (f .0 / 32768) 0 (λ z. omega (arith, one, z)) (if-ne _ _ group 15 not-15 e))))
+        outer-here s at end w (omega arith) (omega arith) read r
+        (rw (f .0, f .1) (if-ge _ _ (end - (at + 2)) size (omega arith) (if-ne _ _ (w / 32768) 0 (λ z. omega (arith, one, z)) (if-ne _ _ group 15 not-15 e))))
 
     pub header-step : (id : ℕ) → Descriptor 7 a b size id 0 → (id ≡ 126 → ⊥) → (id ≡ 127 → ⊥) → header.Element id (at + 2) (at + 2 + size) ≡ headerAt s at end
     unfolding headerWord
     header-step id d not-126 not-127 =
-        let w : ℕ = size + 128 * id in
-        let is : w ≡ leAt 2 s at = omega (arith, d .parts, read) in
-        let top : w / 32768 ≡ 0 = omega (arith, d .length-fits, d .id-fits) in
-        let low : w % 128 ≡ size = omega (arith, d .length-fits) in
-        let mid : w / 128 ≡ id = omega (arith, d .length-fits) in
-        let high : w / 128 % 256 ≡ id = rw mid (omega (arith, d .id-fits)) in
-        header-here s at end w (omega arith) (omega arith) is _
-        (rw (low, high) (if-ge _ _ (end - (at + 2)) size (omega arith) (if-ne _ _ (w / 32768) 1 (λ z. omega (arith, top, z)) (if-ne _ _ id 126 not-126 (if-ne _ _ id 127 not-127 refl)))))
+        let f = described d refl in
+        let top = f .2 in
+        header-here s at end w (omega arith) (omega arith) read _
+        (rw (f .0, f .1) (if-ge _ _ (end - (at + 2)) size (omega arith) (if-ne _ _ (w / 32768) 1 (λ z. omega (arith, top, z)) (if-ne _ _ id 126 not-126 (if-ne _ _ id 127 not-127 refl)))))
 
   pub sub-step : (size kind : ℕ) → at + 2 + size ≤ end → SubDescriptor a b size kind → inner.Part kind (at + 2) (at + 2 + size) ≡ innerAt s at end
   sub-step size _ room (short-id id d) = short-step size room id d

@@ -1,6 +1,6 @@
 -- A list of bytes has one reading by the grammar: where its fields end, where its header elements end, and which elements it holds. Assumes
 -- nothing.
-use Prim.Native.Nat.{ℕ, _+_, _-_, _*_}
+use Prim.Native.Nat.{ℕ, _+_, _-_, _*_, _^_, _≤_}
 use mathlib.Core.Path.{_≡_, refl, sym, _∙_, ap}
 use mathlib.Core.List.{List, [], _∷_, _++_, append-assoc}
 use native.Mathlib.Omega.{arith}
@@ -8,8 +8,10 @@ use lib.ListN.{length, getD, take, drop}
 use lib.Seq.{take-at, drop-at}
 use Rattle.mac_header_spec.specs.declared.SequenceNumber.{SequenceNumber}
 use Rattle.mac_header_spec.specs.declared.Address.{Address}
+use Rattle.eb_record_spec.specs.declared.Beacon.{Beacon}
 use Rattle.eb_grammar_spec.specs.Row.{le, bits}
-use Rattle.eb_grammar_spec.specs.Grammar.{numbered, suppressed, short-source, extended-source, FixedFields, fixed-fields, Descriptor, HeaderElements, header-end, header-element, Element, SubDescriptor, short-id, long-id, SubElements, group-end, sub-element, Group, mlme, ietf-element, other-group, PayloadElements, bytes-end, payload-end, payload-element}
+use Rattle.eb_grammar_spec.specs.Grammar.{numbered, suppressed, short-source, extended-source, FixedFields, fixed-fields, Descriptor, HeaderElements, header-end, header-element, Element, SubDescriptor, short-id, long-id, SubElements, group-end, sub-element, Group, mlme, ietf-element, other-group, PayloadElements, bytes-end, payload-end, payload-element, Says, Accepts}
+use Rattle.eb_grammar_spec.proofs.Slices.{described}
 
 -- ---- lists
 pub split : (xs us ys vs : List ℕ) → xs ++ ys ≡ us ++ vs → length xs ≡ length us → (xs ≡ us) × (ys ≡ vs)
@@ -26,23 +28,17 @@ none {xs} e = let longer : _≡_ {A = ℕ} 0 (2 + length xs) = ap length e ∙ o
 
 -- ---- descriptors of the same two bytes
 module _ {a b c d n m i j : ℕ} (low : a ≡ c) (high : b ≡ d) where
-  same-7 : Descriptor 7 a b n i 0 → Descriptor 7 c d m j 0 → (n ≡ m) × (i ≡ j)
-  same-7 x y = let e = rw (low, high) at (x .parts) in (omega (arith, e, y .parts, x .length-fits, y .length-fits), omega (arith, e, y .parts, x .length-fits, y .length-fits))
-
-  same-8 : Descriptor 8 a b n i 0 → Descriptor 8 c d m j 0 → (n ≡ m) × (i ≡ j)
-  same-8 x y = let e = rw (low, high) at (x .parts) in (omega (arith, e, y .parts, x .length-fits, y .length-fits), omega (arith, e, y .parts, x .length-fits, y .length-fits))
-
-  same-11 : Descriptor 11 a b n i 1 → Descriptor 11 c d m j 1 → (n ≡ m) × (i ≡ j)
-  same-11 x y = let e = rw (low, high) at (x .parts) in (omega (arith, e, y .parts, x .length-fits, y .length-fits), omega (arith, e, y .parts, x .length-fits, y .length-fits))
+  same : {split top : ℕ} → 2 ^ split * 2 ^ (15 - split) ≡ 32768 → Descriptor split a b n i top → Descriptor split c d m j top → (n ≡ m) × (i ≡ j)
+  same whole x y = let e = rw (low, high) at (described x whole) in let f = described y whole in (sym (e .0) ∙ f .0, sym (e .1) ∙ f .1)
 
   short-not-long : Descriptor 8 a b n i 0 → Descriptor 11 c d m j 1 → ⊥
-  short-not-long x y = let e = rw (low, high) at (x .parts) in omega (arith, e, y .parts, x .length-fits, x .id-fits)
+  short-not-long x y = let e = rw (low, high) at (described x refl .2) in omega (arith, e, described y refl .2)
 
 sub-same : {a b c d n m : ℕ} (i j : ℕ) → a ≡ c → b ≡ d → SubDescriptor a b n i → SubDescriptor c d m j → (n ≡ m) × (i ≡ j)
-sub-same _ _ low high (short-id i x) (short-id j y) = same-8 low high x y
+sub-same _ _ low high (short-id i x) (short-id j y) = same low high refl x y
 sub-same _ _ low high (short-id i x) (long-id j y) = absurd (short-not-long low high x y)
 sub-same _ _ low high (long-id i x) (short-id j y) = absurd (short-not-long (sym low) (sym high) y x)
-sub-same _ _ low high (long-id i x) (long-id j y) = let same = same-11 low high x y in (same .0, ap (λ (k : ℕ). 128 + k) (same .1))
+sub-same _ _ low high (long-id i x) (long-id j y) = let e = same low high refl x y in (e .0, ap (λ (k : ℕ). 128 + k) (e .1))
 
 -- ---- the fixed fields
 abbrev word : List ℕ → ℕ
@@ -66,15 +62,15 @@ module _ (a b c d n m i j : ℕ) (us vs : List ℕ) (one : Descriptor 7 a b n i 
   header-same _ _ header-end header-end e = (refl, e)
   header-same _ _ header-end (header-element l h k content f not-126 not-127 more) e =
       let head = heads e in
-      let id : i ≡ k = same-7 (head .0) (head .1) one f .1 in
+      let id : i ≡ k = same (head .0) (head .1) refl one f .1 in
       absurd (i-ends (λ z. not-126 (sym id ∙ z)) (λ z. not-127 (sym id ∙ z)))
   header-same _ _ (header-element l h k content f not-126 not-127 more) header-end e =
       let head = heads e in
-      let id : k ≡ j = same-7 (head .0) (head .1) f other .1 in
+      let id : k ≡ j = same (head .0) (head .1) refl f other .1 in
       absurd (j-ends (λ z. not-126 (id ∙ z)) (λ z. not-127 (id ∙ z)))
   header-same _ _ (header-element l h k content {rest} f not-126 not-127 more) (header-element l′ h′ k′ content′ {rest = rest′} f′ not-126′ not-127′ more′) e =
       let head = heads e in
-      let sized = same-7 (head .0) (head .1) f f′ .0 in
+      let sized = same (head .0) (head .1) refl f f′ .0 in
       let cut = split content content′ _ _ (sym (append-assoc content rest _) ∙ (head .2 ∙ append-assoc content′ rest′ _)) sized in
       let go = header-same rest rest′ more more′ (cut .1) in
       (rw (head .0, head .1, cut .0, go .0), go .1)
@@ -90,19 +86,14 @@ subs-same _ _ _ _ (sub-element a b k c {rest} {found} d more) (sub-element a′ 
     let cut = split c c′ rest rest′ (head .2) (same .0) in
     rw (same .1, cut .0, subs-same rest rest′ found found′ more more′ (cut .1))
 
-group-same : (n m : ℕ) (c d : List ℕ) (f g : List Element) → Group n c f → Group m d g → n ≡ m → c ≡ d → f ≡ g
-group-same _ _ _ _ _ _ (mlme one) (mlme other) e same = subs-same _ _ _ _ one other same
-group-same _ _ _ _ _ _ (mlme one) (ietf-element subtype content) e same = absurd (omega (arith, e))
-group-same _ _ _ _ _ _ (mlme one) (other-group not-1 not-5) e same = absurd (not-1 (sym e))
-group-same _ _ _ _ _ _ (ietf-element subtype content) (mlme other) e same = absurd (omega (arith, e))
-group-same _ _ _ _ _ _ (ietf-element subtype content) (ietf-element subtype′ content′) e same =
-    let first : subtype ≡ subtype′ = ap (λ (l : List ℕ). getD l 0 0) same in
-    let rest : content ≡ content′ = ap (λ (l : List ℕ). drop 1 l) same in
-    rw (first, rest)
-group-same _ _ _ _ _ _ (ietf-element subtype content) (other-group not-1 not-5) e same = absurd (not-5 (sym e))
-group-same _ _ _ _ _ _ (other-group not-1 not-5) (mlme other) e same = absurd (not-1 e)
-group-same _ _ _ _ _ _ (other-group not-1 not-5) (ietf-element subtype content) e same = absurd (not-5 e)
-group-same _ _ _ _ _ _ (other-group not-1 not-5) (other-group not-1′ not-5′) e same = refl
+group-same : (n : ℕ) (c d : List ℕ) (f g : List Element) → Group n c f → Group n d g → c ≡ d → f ≡ g
+group-same _ _ _ _ _ (mlme one) (mlme other) same = subs-same _ _ _ _ one other same
+group-same _ _ _ _ _ (mlme one) (other-group not-1 not-5) same = absurd (not-1 refl)
+group-same _ _ _ _ _ (ietf-element subtype content) (ietf-element subtype′ content′) same = cc
+group-same _ _ _ _ _ (ietf-element subtype content) (other-group not-1 not-5) same = absurd (not-5 refl)
+group-same _ _ _ _ _ (other-group not-1 not-5) (mlme other) same = absurd (not-1 refl)
+group-same _ _ _ _ _ (other-group not-1 not-5) (ietf-element subtype content) same = absurd (not-5 refl)
+group-same _ _ _ _ _ (other-group not-1 not-5) (other-group not-1′ not-5′) same = refl
 
 pub payload-same : (xs ys : List ℕ) (f g : List Element) → PayloadElements xs f → PayloadElements ys g → xs ≡ ys → f ≡ g
 payload-same _ _ _ _ bytes-end bytes-end e = refl
@@ -112,13 +103,20 @@ payload-same _ _ _ _ (payload-end a b ignored d) bytes-end e = absurd (none (sym
 payload-same _ _ _ _ (payload-end a b ignored d) (payload-end a′ b′ ignored′ d′) e = refl
 payload-same _ _ _ _ (payload-end a b ignored d) (payload-element a′ b′ n c d′ not-15 holds more) e =
     let head = heads e in
-    absurd (not-15 (sym (same-11 (head .0) (head .1) d d′ .1)))
+    absurd (not-15 (sym (same (head .0) (head .1) refl d d′ .1)))
 payload-same _ _ _ _ (payload-element a b n c d not-15 holds more) bytes-end e = absurd (none (sym e))
 payload-same _ _ _ _ (payload-element a b n c d not-15 holds more) (payload-end a′ b′ ignored d′) e =
     let head = heads e in
-    absurd (not-15 (same-11 (head .0) (head .1) d d′ .1))
+    absurd (not-15 (same (head .0) (head .1) refl d d′ .1))
 payload-same _ _ _ _ (payload-element a b n c {rest} {inside} {found} d not-15 holds more) (payload-element a′ b′ n′ c′ {rest = rest′} {inside = inside′} {found = found′} d′ not-15′ holds′ more′) e =
     let head = heads e in
-    let same = same-11 (head .0) (head .1) d d′ in
+    let same = same (head .0) (head .1) refl d d′ in
     let cut = split c c′ rest rest′ (head .2) (same .0) in
-    rw (group-same _ _ _ _ inside inside′ holds holds′ (same .1) (cut .0), payload-same rest rest′ found found′ more more′ (cut .1))
+    rw (group-same n′ c c′ inside inside′ (rw (same .1) at holds) holds′ (cut .0), payload-same rest rest′ found found′ more more′ (cut .1))
+
+-- ---- the frame
+-- a frame is accepted by its parts
+pub accepted-by : {s fields header payload : List ℕ} {low high : ℕ} {found : List Element} {b : Beacon} → length s ≤ 125 → s ≡ fields ++ (header ++ (low ∷ high ∷ payload)) → FixedFields fields (b .sequence) (b .pan) (b .source)
+    → HeaderElements header → Descriptor 7 low high 0 126 0 → PayloadElements payload found → Says found b → Accepts s b
+accepted-by short stands opens skips follows lists says =
+    record { fields = _; header = _; low = _; high = _; payload = _; found = _; at-most-125 = short; stands = stands; opens = opens; skips = skips; follows = follows; lists = lists; says = says }
