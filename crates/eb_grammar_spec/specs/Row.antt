@@ -20,5 +20,7 @@ bits start count number = number / 2 ^ start % 2 ^ count
 
 -- numbers one behind the other: the width of each in bytes, the bytes, the numbers
 pub data Row : List ℕ → List ℕ → List ℕ → Type 0 where
+  -- no more numbers
   last : Row [] [] []
+  -- a number, least significant byte first, and those behind it
   next : (number : List ℕ) {widths bytes numbers : List ℕ} → Row widths bytes numbers → Row (length number ∷ widths) (number ++ bytes) (le number ∷ numbers)
