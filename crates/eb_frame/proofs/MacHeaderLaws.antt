@@ -52,11 +52,11 @@ module _ (a : Address) (n : ℕ) where
   source-extended e = rw (e, length-le 8 n)
 
 -- ---- the parts
-pub mac-header-put : (s t u v : List ℕ) (q : SequenceNumber) (a : Address) (pan word size number wide source : ℕ) → pan < 65536 → word ≡ controlWord q a → word < 65536 → size ≡ length (sequenceBytes q) → leBytes (length (sequenceBytes q)) number ≡ sequenceBytes q
-    → wide ≡ length (sourceBytes a) → leBytes (length (sourceBytes a)) source ≡ sourceBytes a → t ≡ stored s 0 (leBytes (2 + size) (word + number * 65536)) → u ≡ stored t (2 + size) (leBytes 4 (pan + 4294901760)) → v ≡ stored u (6 + size) (leBytes wide source)
+pub mac-header-put : (s t u v : List ℕ) (q : SequenceNumber) (a : Address) (pan word size number wide source : ℕ) → v ≡ stored u (6 + size) (leBytes wide source) → u ≡ stored t (2 + size) (leBytes 4 (pan + 4294901760)) → t ≡ stored s 0 (leBytes (2 + size) (word + number * 65536))
+    → pan < 65536 → word ≡ controlWord q a → word < 65536 → size ≡ length (sequenceBytes q) → leBytes (length (sequenceBytes q)) number ≡ sequenceBytes q → wide ≡ length (sourceBytes a) → leBytes (length (sourceBytes a)) source ≡ sourceBytes a
     → v ≡ stored s 0 (macHeaderBytes q pan a)
 unfolding macHeaderBytes
-mac-header-put s t u v q a pan word size number wide source small is low long one w two e f g =
+mac-header-put s t u v q a pan word size number wide source g f e small is low long one w two =
     let swap : word + number * 65536 ≡ word + 65536 * number = omega arith in
     let byte : leBytes size number ≡ sequenceBytes q = rw long one in
     let first : leBytes (2 + size) (word + number * 65536) ≡ leBytes 2 (controlWord q a) ++ sequenceBytes q = rw (swap, le-joined 2 size word number low, is, byte) in

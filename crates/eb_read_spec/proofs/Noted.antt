@@ -80,6 +80,7 @@ shape-passed bytes count n e =
     let one = was-eq _ _ _ _ _ (was-ge _ _ _ _ _ e wrong-shape .1) over-limits in
     (one .0, was-eq _ _ _ _ _ (one .1) wrong-shape .0)
 
+-- by its kind
 module _ (s : List ℕ) (from to : ℕ) (seen : Seen) where
   pub kind-slotframe : partFault s 27 from to seen ≡ 0 → SlotframePassed s from × (getD s from 0 ≡ 1) × (to - from ≡ 5 + 5 * getD s (from + 4) 0)
   unfolding partFault slotframeFaultAt slotframeFault ifEq

@@ -25,14 +25,14 @@ sets-out : (s xs : List ℕ) (at : ℕ) → length s ≤ at → s ≡ sets s at 
 sets-out s [] at past = refl
 sets-out s (x ∷ xs) at past = rw (set-out s at x past) (sets-out s xs (suc at) (omega arith))
 
+pub stored-out : (s xs : List ℕ) (at : ℕ) → length s ≤ at → s ≡ stored s at xs
+unfolding stored
+stored-out = sets-out
+
 -- parts in a row are one part
 pub sets-append : (s xs ys : List ℕ) (at : ℕ) → sets s at (xs ++ ys) ≡ sets (sets s at xs) (at + length xs) ys
 sets-append s [] ys at = rw (add-zero at)
 sets-append s (x ∷ xs) ys at = let offset : at + suc (length xs) ≡ suc at + length xs = omega arith in rw offset (sets-append (set s at x) xs ys (suc at))
-
-pub stored-out : (s xs : List ℕ) (at : ℕ) → length s ≤ at → s ≡ stored s at xs
-unfolding stored
-stored-out = sets-out
 
 -- ---- what was put reads back, in either order
 pub le-back : ReadsBack leBytes leAt

@@ -59,7 +59,9 @@ same-length : tie.Need-same-length
 same-length c = search needs
 
 returns : tie.Need-returns
-returns c = mac-header-put _ _ _ _ _ _ _ _ _ _ _ _ (search needs) (c .before .before .before .before .before .before .before .before .before .before .before .before .before .before .before .control-word .ensures .0) (c .before .before .before .before .before .before .before .before .before .before .before .before .before .before .before .control-word .ensures .1) (c .before .before .before .before .before .before .before .before .before .before .before .before .before .before .before .before .sequence-size .ensures .0) (c .before .before .before .before .before .before .before .before .before .before .before .before .before .before .sequence-number .ensures .0) (c .before .before .before .before .source-size .ensures .0) (c .before .before .before .source-number .ensures) (c .before .before .before .before .before .before .before .before .before .before .before .before .put-le .ensures .0) (c .before .before .before .before .before .before .before .before .put-le2 .ensures .0) (c .before .before .put-le3 .ensures .0)
+returns c =
+    mac-header-put _ _ _ _ _ _ _ _ _ _ _ _ (c .before .before .put-le3 .ensures .0) (c .before .before .before .before .before .before .before .before .put-le2 .ensures .0) (c .before .before .before .before .before .before .before .before .before .before .before .before .put-le .ensures .0)
+    (search needs) (search needs) (search needs) (search needs) (search needs) (search needs) (search needs)
 
 pub put-mac-header-spec : {M : Type 1} → statement M
 put-mac-header-spec =
