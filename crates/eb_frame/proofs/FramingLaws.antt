@@ -8,7 +8,7 @@ use Rattle.octets_spec.specs.Number.{leBytes, stored}
 use Rattle.octets_spec.proofs.PutLaws.{stored-out}
 use Rattle.octets_spec.proofs.CountedLaws.{length-mapped}
 use Rattle.eb_record_spec.specs.declared.Beacon.{Beacon}
-use Rattle.eb_write_spec.specs.Frame.{sequenceBytes, sourceBytes, headerDescriptor, groupSize, joiningBytes, beaconMacHeader, beaconGroup, frameOf}
+use Rattle.eb_write_spec.specs.Frame.{sequenceBytes, addressBytes, headerDescriptor, groupSize, joiningBytes, beaconMacHeader, beaconGroup, frameOf}
 use Rattle.eb_write_spec.proofs.LengthLaws.{length-le, length-mac-header, length-group-used}
 use Rattle.eb_write_spec.proofs.RowLaws.{two, three}
 
@@ -22,7 +22,7 @@ pub elements-put : (s : List ℕ) (at : ℕ) (t u v : List ℕ) (b : Beacon) (si
 unfolding headerDescriptor
 elements-put s at t u v b size is e g h = three s at _ _ _ t u v 2 (length (beaconGroup b)) e (length-le 2 16128) g refl (rw is at h)
 
-pub frame-put : (b : Beacon) (s t u : List ℕ) (q a : ℕ) → q ≡ length (sequenceBytes (b .sequence)) → a ≡ length (sourceBytes (b .source)) → t ≡ stored s 0 (beaconMacHeader b)
+pub frame-put : (b : Beacon) (s t u : List ℕ) (q a : ℕ) → q ≡ length (sequenceBytes (b .sequence)) → a ≡ length (addressBytes (b .source)) → t ≡ stored s 0 (beaconMacHeader b)
     → u ≡ stored t (6 + q + a) (headerDescriptor 126 0 ++ (beaconGroup b ++ joiningBytes (b .joining))) → u ≡ stored s 0 (frameOf b)
 unfolding frameOf
 frame-put b s t u q a sequence source e g =

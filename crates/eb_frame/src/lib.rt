@@ -5,7 +5,7 @@ ghost use Prim.Native.Nat.{_+_, _≤_, _<_, _^_};
 ghost use lib.ListN.{length, take};
 ghost use Rattle.octets_spec.specs.Choice.{ifOn};
 ghost use Rattle.octets_spec.specs.Number.{leBytes, beBytes, stored};
-ghost use Rattle.eb_write_spec.specs.Frame.{suppressedBit, sequenceBytes, sourceMode, sourceBytes, controlWord, macHeaderBytes, headerTermination1, headerDescriptor, ietfGroup, joiningSubtype, groupDescriptor, flag, joiningWord, joiningSize, joiningBytes, beaconGroup, frameOf};
+ghost use Rattle.eb_write_spec.specs.Frame.{suppressedBit, sequenceBytes, addressMode, addressBytes, controlWord, macHeaderBytes, headerTermination1, headerDescriptor, ietfGroup, joiningSubtype, groupDescriptor, flag, joiningWord, joiningSize, joiningBytes, beaconGroup, frameOf};
 use eb_record_spec::Beacon;
 use eb_record_spec::JoiningInformation;
 use mac_header_spec::Address;
@@ -17,9 +17,9 @@ const ALWAYS: u64 = 0x2A40;
 const SUPPRESSED: u64 = 0x100;
 // Frame control: the lowest bit of the source's addressing mode.
 const SOURCE_MODE: u64 = 0x4000;
-// The addressing mode of a short source.
+// The addressing mode of a short address.
 const SHORT: u64 = 2;
-// The addressing mode of an extended source.
+// The addressing mode of an extended address.
 const EXTENDED: u64 = 3;
 // The destination: all nodes.
 const BROADCAST: u64 = 0xFFFF;
@@ -40,7 +40,8 @@ const PROXY_PRIORITY: u64 = 0x10_0000;
 // The lowest bit of the rank priority in that word.
 const RANK_PRIORITY: u64 = 0x100;
 
-fn suppressed_bit(sequence: SequenceNumber) -> u64
+// The bit of frame control that says that there is no sequence number.
+pub fn suppressed_bit(sequence: SequenceNumber) -> u64
     ensures { λ r. ⌜ (r ≡ suppressedBit sequence) × (r ≤ 1) ⌝ }
 {
     match sequence {
@@ -49,10 +50,11 @@ fn suppressed_bit(sequence: SequenceNumber) -> u64
     }
 }
 
-fn source_mode(source: Address) -> u64
-    ensures { λ r. ⌜ (r ≡ sourceMode source) × (r ≤ 3) ⌝ }
+// The addressing mode of an address.
+pub fn address_mode(address: Address) -> u64
+    ensures { λ r. ⌜ (r ≡ addressMode address) × (r ≤ 3) ⌝ }
 {
-    match source {
+    match address {
         Address::Short(_) => SHORT,
         Address::Extended(_) => EXTENDED,
     }
@@ -61,11 +63,11 @@ fn source_mode(source: Address) -> u64
 fn control_word(sequence: SequenceNumber, source: Address) -> u64
     ensures { λ r. ⌜ (r ≡ controlWord sequence source) × (r < 65536) ⌝ }
 {
-    ALWAYS + suppressed_bit(sequence) * SUPPRESSED + source_mode(source) * SOURCE_MODE
+    ALWAYS + suppressed_bit(sequence) * SUPPRESSED + address_mode(source) * SOURCE_MODE
 }
 
 // What the byte of a sequence number holds, if there is one.
-fn sequence_number(sequence: SequenceNumber) -> u64
+pub fn sequence_number(sequence: SequenceNumber) -> u64
     ensures { λ r. ⌜ (leBytes (length (sequenceBytes sequence)) r ≡ sequenceBytes sequence) × (r < 256) ⌝ }
 {
     match sequence {
@@ -74,11 +76,11 @@ fn sequence_number(sequence: SequenceNumber) -> u64
     }
 }
 
-// What the bytes of a source hold.
-fn source_number(source: Address) -> u64
-    ensures { λ r. ⌜ leBytes (length (sourceBytes source)) r ≡ sourceBytes source ⌝ }
+// What the bytes of an address hold.
+pub fn address_number(address: Address) -> u64
+    ensures { λ r. ⌜ leBytes (length (addressBytes address)) r ≡ addressBytes address ⌝ }
 {
-    match source {
+    match address {
         Address::Short(number) => number as u64,
         Address::Extended(number) => number,
     }
@@ -95,8 +97,8 @@ fn put_mac_header(buffer: &mut [u8], sequence: SequenceNumber, pan: u16, source:
     octets::put::put_le(
         buffer,
         6 + size,
-        eb_limits::sizes::source_size(source) as u8,
-        source_number(source),
+        eb_limits::sizes::address_size(source) as u8,
+        address_number(source),
     );
 }
 
@@ -212,7 +214,7 @@ pub fn put_frame(buffer: &mut [u8], beacon: Beacon)
 {
     let sequence = beacon.sequence;
     let source = beacon.source;
-    let at = 6 + eb_limits::sizes::sequence_size(sequence) + eb_limits::sizes::source_size(source);
+    let at = 6 + eb_limits::sizes::sequence_size(sequence) + eb_limits::sizes::address_size(source);
     put_mac_header(buffer, sequence, beacon.pan, source);
     put_elements(buffer, at, beacon);
 }

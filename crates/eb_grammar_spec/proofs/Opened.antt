@@ -25,7 +25,7 @@ use Rattle.eb_read_spec.proofs.Each.{each-eq}
 use Rattle.eb_read_spec.proofs.PolicyLaws.{accepted}
 use Rattle.eb_grammar_spec.proofs.Stands.{Stands, stands-whole, stands-first, stands-rest}
 use Rattle.eb_grammar_spec.specs.Row.{le}
-use Rattle.eb_grammar_spec.specs.Grammar.{SequenceBytes, numbered, suppressed, SourceBytes, short-source, extended-source, FrameControl, FixedFields, fixed-fields}
+use Rattle.eb_grammar_spec.specs.Grammar.{SequenceBytes, numbered, suppressed, AddressBytes, short-address, extended-address, FrameControl, FixedFields, fixed-fields}
 use Rattle.eb_grammar_spec.proofs.Slices.{part, part-at, part-stands, length-part, le-stands, le-part, part-element}
 
 -- frame control of the accepted form
@@ -104,10 +104,10 @@ module _ (s : List ℕ) where
   sequence-reads _ _ _ (numbered n) = (refl, λ h. ap Number (sym (h .0)))
   sequence-reads _ _ _ suppressed = (refl, λ h. refl)
 
-  source-reads : (mode : ℕ) (xs : List ℕ) (a : Address) → SourceBytes mode xs a → (2 ≤ mode) × (length xs ≡ addressLength mode) × ((at : ℕ) → Stands s at xs → a ≡ addressOf mode (leAt (length xs) s at))
+  source-reads : (mode : ℕ) (xs : List ℕ) (a : Address) → AddressBytes mode xs a → (2 ≤ mode) × (length xs ≡ addressLength mode) × ((at : ℕ) → Stands s at xs → a ≡ addressOf mode (leAt (length xs) s at))
   unfolding addressLength addressOf ifEq
-  source-reads _ _ _ (short-source xs two) = (omega arith, two, λ at h. ap Short (le-stands s at xs h))
-  source-reads _ _ _ (extended-source xs eight) = (omega arith, eight, λ at h. ap Extended (le-stands s at xs h))
+  source-reads _ _ _ (short-address xs two) = (omega arith, two, λ at h. ap Short (le-stands s at xs h))
+  source-reads _ _ _ (extended-address xs eight) = (omega arith, eight, λ at h. ap Extended (le-stands s at xs h))
 
   pub opens-of : length s ≤ 125 → (fields elements : List ℕ) (n : SequenceNumber) (pan : ℕ) (address : Address) → FixedFields fields n pan address → s ≡ fields ++ elements → Opens s n pan address elements
   opens-of short _ elements _ _ _ (fixed-fields a b p q {suppression} {mode} {sequence} {source} {number} {address} control n-says address-says) e =
@@ -165,15 +165,15 @@ module _ (s : List ℕ) (bytes : Bytes s) where
   sequence-some (suc zero) small = (0, refl, suppressed)
   sequence-some (suc (suc n)) small = absurd (omega arith)
 
-  source-some : (mode at : ℕ) → 2 ≤ mode → mode < 4 → SourceBytes mode (part s at (addressLength mode)) (addressOf mode (leAt (addressLength mode) s at))
+  source-some : (mode at : ℕ) → 2 ≤ mode → mode < 4 → AddressBytes mode (part s at (addressLength mode)) (addressOf mode (leAt (addressLength mode) s at))
   unfolding addressLength addressOf ifEq
   source-some mode at two four =
       by-test (eqb mode 3)
-      (λ t. rw (eqb-true mode 3 t) (rw (le-part s 8 at) at (extended-source (part s at 8) (length-part s at 8))))
+      (λ t. rw (eqb-true mode 3 t) (rw (le-part s 8 at) at (extended-address (part s at 8) (length-part s at 8))))
       (λ t.
       let not : mode ≡ 3 → ⊥ = eqb-false mode 3 t in
       let is : mode ≡ 2 = omega arith in
-      rw is (rw (le-part s 2 at) at (short-source (part s at 2) (length-part s at 2))))
+      rw is (rw (le-part s 2 at) at (short-address (part s at 2) (length-part s at 2))))
 
   fields-say : (suppression mode : ℕ) → suppression < 2 → 2 ≤ mode → mode < 4 → FrameControl (leAt 2 s 0) suppression mode → macHeaderOf s .elements ≤ macHeaderOf s .end → macHeaderOf s .destination ≡ 65535 → OpeningSays s
   fields-say suppression mode small two four c room there =

@@ -10,7 +10,7 @@ use Rattle.mac_header_spec.specs.declared.SequenceNumber.{SequenceNumber}
 use Rattle.mac_header_spec.specs.declared.Address.{Address}
 use Rattle.eb_record_spec.specs.declared.Beacon.{Beacon}
 use Rattle.eb_grammar_spec.specs.Row.{le, bits}
-use Rattle.eb_grammar_spec.specs.Grammar.{numbered, suppressed, short-source, extended-source, FixedFields, fixed-fields, Descriptor, HeaderElements, header-end, header-element, Element, SubDescriptor, short-id, long-id, SubElements, group-end, sub-element, Group, mlme, ietf-element, other-group, PayloadElements, bytes-end, payload-end, payload-element, Says, Accepts}
+use Rattle.eb_grammar_spec.specs.Grammar.{numbered, suppressed, short-address, extended-address, FixedFields, fixed-fields, Descriptor, HeaderElements, header-end, header-element, Element, SubDescriptor, short-id, long-id, SubElements, group-end, sub-element, Group, mlme, ietf-element, other-group, PayloadElements, bytes-end, payload-end, payload-element, Says, Accepts}
 use Rattle.eb_grammar_spec.proofs.Slices.{described}
 
 -- ---- lists
@@ -48,10 +48,10 @@ abbrev fieldsSize : List ℕ → ℕ
 fieldsSize s = 6 + (1 - bits 8 1 (word s)) + (6 * bits 14 2 (word s) - 10)
 
 fields-length : (f us : List ℕ) (n : SequenceNumber) (p : ℕ) (a : Address) → FixedFields f n p a → length f ≡ fieldsSize (f ++ us)
-fields-length _ us _ _ _ (fixed-fields l h p q c (numbered n) (short-source xs e)) = rw (c .suppression, c .source) (omega (arith, e))
-fields-length _ us _ _ _ (fixed-fields l h p q c (numbered n) (extended-source xs e)) = rw (c .suppression, c .source) (omega (arith, e))
-fields-length _ us _ _ _ (fixed-fields l h p q c suppressed (short-source xs e)) = rw (c .suppression, c .source) (omega (arith, e))
-fields-length _ us _ _ _ (fixed-fields l h p q c suppressed (extended-source xs e)) = rw (c .suppression, c .source) (omega (arith, e))
+fields-length _ us _ _ _ (fixed-fields l h p q c (numbered n) (short-address xs e)) = rw (c .suppression, c .source) (omega (arith, e))
+fields-length _ us _ _ _ (fixed-fields l h p q c (numbered n) (extended-address xs e)) = rw (c .suppression, c .source) (omega (arith, e))
+fields-length _ us _ _ _ (fixed-fields l h p q c suppressed (short-address xs e)) = rw (c .suppression, c .source) (omega (arith, e))
+fields-length _ us _ _ _ (fixed-fields l h p q c suppressed (extended-address xs e)) = rw (c .suppression, c .source) (omega (arith, e))
 
 pub fields-same : (f g us vs : List ℕ) (n m : SequenceNumber) (p q : ℕ) (a b : Address) → FixedFields f n p a → FixedFields g m q b → f ++ us ≡ g ++ vs → (f ≡ g) × (us ≡ vs)
 fields-same f g us vs n m p q a b one other e = split f g us vs e (fields-length f us n p a one ∙ (ap fieldsSize e ∙ sym (fields-length g vs m q b other)))

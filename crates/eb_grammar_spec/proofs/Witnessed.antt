@@ -25,7 +25,7 @@ use Rattle.eb_read_spec.specs.declared.ReadAnswer.{ReadAnswer}
 use Rattle.eb_read_spec.proofs.Witnessed.{bytes, shortest-is-read, shortest-bytes}
 use Rattle.eb_grammar_spec.specs.Witnesses.{ShortestIsOfTheGrammar, AnUnknownElementIsPutIn, manifold, manifoldRecord, ManifoldIsOfTheGrammar}
 use Rattle.eb_grammar_spec.specs.Row.{le}
-use Rattle.eb_grammar_spec.specs.Grammar.{suppressed, short-source, fixed-fields, Descriptor, header-end, Element, short-id, long-id, group-end, sub-element, mlme, other-group, PayloadElements, bytes-end, payload-element, contents}
+use Rattle.eb_grammar_spec.specs.Grammar.{suppressed, short-address, fixed-fields, Descriptor, header-end, Element, short-id, long-id, group-end, sub-element, mlme, other-group, PayloadElements, bytes-end, payload-element, contents}
 use Rattle.eb_grammar_spec.specs.Follows.{Before, one-element}
 use Rattle.eb_grammar_spec.proofs.Agreed.{sound, complete}
 use Rattle.eb_grammar_spec.proofs.Followed.{unknown-elements-do-not-count}
@@ -68,7 +68,7 @@ place = record {
   stands = refl;
   opens =
       fixed-fields 64 171 52 18 (record { type = refl; security = refl; compression = refl; suppression = refl; elements = refl; destination = refl; version = refl; source = refl }) suppressed
-      (short-source (7 ∷ 0 ∷ []) refl);
+      (short-address (7 ∷ 0 ∷ []) refl);
   skips = header-end;
   follows = describes 7 0 63 0 126 0 refl tt tt;
   lists = bytes-end;

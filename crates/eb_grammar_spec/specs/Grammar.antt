@@ -39,18 +39,18 @@ pub data SequenceBytes : ℕ → List ℕ → SequenceNumber → Type 0 where
   -- unless suppressed
   suppressed : SequenceBytes 1 [] Absent
 
--- the source, by its mode
-pub data SourceBytes : ℕ → List ℕ → Address → Type 0 where
+-- an address, by its mode
+pub data AddressBytes : ℕ → List ℕ → Address → Type 0 where
   -- mode 2: short, 2 bytes
-  short-source : (bytes : List ℕ) → length bytes ≡ 2 → SourceBytes 2 bytes (Short (le bytes))
+  short-address : (bytes : List ℕ) → length bytes ≡ 2 → AddressBytes 2 bytes (Short (le bytes))
   -- mode 3: extended, 8 bytes
-  extended-source : (bytes : List ℕ) → length bytes ≡ 8 → SourceBytes 3 bytes (Extended (le bytes))
+  extended-address : (bytes : List ℕ) → length bytes ≡ 8 → AddressBytes 3 bytes (Extended (le bytes))
 
 -- what stands before the elements, and the sequence number, PAN and source that it says
 pub data FixedFields : List ℕ → SequenceNumber → ℕ → Address → Type 0 where
   -- frame control (2), sequence number, destination PAN (2), destination FF FF, source
   fixed-fields : (low high panLow panHigh : ℕ) {suppression mode : ℕ} {sequence source : List ℕ} {number : SequenceNumber} {address : Address} → FrameControl (le (low ∷ high ∷ [])) suppression mode
-      → SequenceBytes suppression sequence number → SourceBytes mode source address
+      → SequenceBytes suppression sequence number → AddressBytes mode source address
       → FixedFields (low ∷ high ∷ (sequence ++ (panLow ∷ panHigh ∷ 0xFF ∷ 0xFF ∷ source))) number (le (panLow ∷ panHigh ∷ [])) address
 
 -- ---- lists of elements

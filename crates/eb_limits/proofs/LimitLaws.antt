@@ -17,8 +17,8 @@ use Rattle.eb_record_spec.specs.declared.Link.{Link}
 use Rattle.eb_record_spec.specs.declared.Slotframe.{Slotframe}
 use Rattle.eb_record_spec.specs.declared.JoiningInformation.{JoiningInformation}
 use Rattle.eb_record_spec.specs.declared.Beacon.{Beacon}
-use Rattle.eb_write_spec.specs.Limits.{allBelow, sequenceFits, synchronizationFits, templateFits, linkFits, linkUnused, slotframeFits, addressFits, presentFits, absentFits, joiningFits, fits}
-use Rattle.eb_record_spec.specs.Form.{sourceFits}
+use Rattle.eb_write_spec.specs.Limits.{allBelow, sequenceFits, synchronizationFits, templateFits, linkFits, linkUnused, slotframeFits, proxyFits, presentFits, absentFits, joiningFits, fits}
+use Rattle.eb_record_spec.specs.Form.{addressFits}
 use Rattle.eb_write_spec.specs.Range.{allFrom, below}
 use Rattle.eb_write_spec.proofs.RangeLaws.{whole, all-from, all-used, all-unused}
 
@@ -31,13 +31,13 @@ unfolding sequenceFits
 sequence-number q n e = rw e
 
 module _ (a : Address) (n : ℕ) where
-  pub source-short : a ≡ Short n → ltb n 65536 ≡ sourceFits a
-  unfolding sourceFits
+  pub source-short : a ≡ Short n → ltb n 65536 ≡ addressFits a
+  unfolding addressFits
   source-short e = rw e
 
   -- all that a number of eight bytes may be
-  pub source-extended : a ≡ Extended n → leb n 18446744073709551615 ≡ sourceFits a
-  unfolding sourceFits
+  pub source-extended : a ≡ Extended n → leb n 18446744073709551615 ≡ addressFits a
+  unfolding addressFits
   source-extended e = rw e (sym (leb·suc-suc n 18446744073709551615))
 
 pub synchronization-is : (y : Synchronization) → y .metric < 256 → ltb (y .asn) 1099511627776 ≡ synchronizationFits y
@@ -68,16 +68,16 @@ slotframe-is f used u v sixteen handle size n e₁ e₂ =
     rw (lt-ltb (f .handle) 256 handle, lt-ltb (f .size) 65536 size, e₁, e₂, all-used (linkFits (f .size)) (f .links) 16 sixteen (f .count) used n, all-unused linkUnused (f .links) 16 sixteen (f .count) used n)
 
 module _ (j : JoiningInformation) where
-  pub address-there : j .proxied ≡ true → j .address < 18446744073709551616 → true ≡ addressFits j
-  unfolding addressFits
+  pub address-there : j .proxied ≡ true → j .address < 18446744073709551616 → true ≡ proxyFits j
+  unfolding proxyFits
   address-there on small = if-on _ _ (j .proxied) on (rw (lt-ltb (j .address) 18446744073709551616 small))
 
-  pub address-unused : j .proxied ≡ false → eqb (j .address) 0 ≡ addressFits j
-  unfolding addressFits
+  pub address-unused : j .proxied ≡ false → eqb (j .address) 0 ≡ proxyFits j
+  unfolding proxyFits
   address-unused off = if-off _ _ (j .proxied) off refl
 
 module _ (j : JoiningInformation) (sixteen : length (j .network) ≡ 16) where
-  pub present-is : (used : ℕ) (a u v : Bool) → j .pan < 256 → used ≡ min (j .length) 16 → a ≡ addressFits j → u ≡ allFrom (below 256) (j .network) 0 used → v ≡ allFrom (below 1) (j .network) used 16
+  pub present-is : (used : ℕ) (a u v : Bool) → j .pan < 256 → used ≡ min (j .length) 16 → a ≡ proxyFits j → u ≡ allFrom (below 256) (j .network) 0 used → v ≡ allFrom (below 1) (j .network) used 16
       → ltb (j .proxy) 128 && (ltb (j .rank) 4096 && (a && (ltb (j .length) 17 && (u && v)))) ≡ presentFits j
   unfolding presentFits allBelow below
   present-is used a u v pan n e₁ e₂ e₃ = rw (lt-ltb (j .pan) 256 pan, e₁, e₂, e₃, all-used (below 256) (j .network) 16 sixteen (j .length) used n, all-unused (below 1) (j .network) 16 sixteen (j .length) used n)
@@ -96,7 +96,7 @@ module _ (j : JoiningInformation) (r : Bool) where
   unfolding joiningFits
   joining-absent off e = if-off _ _ (j .present) off e
 
-pub within-is : (b : Beacon) (q a y t f j : Bool) → b .pan < 65536 → b .hopping < 256 → q ≡ sequenceFits (b .sequence) → a ≡ sourceFits (b .source) → y ≡ synchronizationFits (b .synchronization) → t ≡ templateFits (b .timeslot) → f ≡ slotframeFits (b .slotframe) → j ≡ joiningFits (b .joining)
+pub within-is : (b : Beacon) (q a y t f j : Bool) → b .pan < 65536 → b .hopping < 256 → q ≡ sequenceFits (b .sequence) → a ≡ addressFits (b .source) → y ≡ synchronizationFits (b .synchronization) → t ≡ templateFits (b .timeslot) → f ≡ slotframeFits (b .slotframe) → j ≡ joiningFits (b .joining)
     → q && (a && (y && (t && (f && j)))) ≡ fits b
 unfolding fits
 within-is b q a y t f j pan hopping e₁ e₂ e₃ e₄ e₅ e₆ = rw (lt-ltb (b .pan) 65536 pan, lt-ltb (b .hopping) 256 hopping, e₁, e₂, e₃, e₄, e₅, e₆)

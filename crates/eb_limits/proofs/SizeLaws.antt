@@ -14,7 +14,7 @@ use Rattle.mac_header_spec.specs.declared.Address.the-variants.{Short, Extended
 use Rattle.eb_record_spec.specs.declared.TimeslotTemplate.{TimeslotTemplate}
 use Rattle.eb_record_spec.specs.declared.JoiningInformation.{JoiningInformation}
 use Rattle.eb_record_spec.specs.declared.Beacon.{Beacon}
-use Rattle.eb_write_spec.specs.Frame.{sequenceBytes, sourceBytes, lastWidth, templateSize, groupSize, joiningSize, frameOf, frameLength}
+use Rattle.eb_write_spec.specs.Frame.{sequenceBytes, addressBytes, lastWidth, templateSize, groupSize, joiningSize, frameOf, frameLength}
 use Rattle.eb_write_spec.specs.Limits.{fits}
 use Rattle.eb_write_spec.proofs.LengthLaws.{length-le, last-two, length-frame}
 
@@ -27,12 +27,12 @@ unfolding sequenceBytes
 sequence-one q n e = rw e (sym (length-le 1 n))
 
 module _ (a : Address) (n : ℕ) where
-  pub source-two : a ≡ Short n → 2 ≡ length (sourceBytes a)
-  unfolding sourceBytes
+  pub source-two : a ≡ Short n → 2 ≡ length (addressBytes a)
+  unfolding addressBytes
   source-two e = rw e (sym (length-le 2 n))
 
-  pub source-eight : a ≡ Extended n → 8 ≡ length (sourceBytes a)
-  unfolding sourceBytes
+  pub source-eight : a ≡ Extended n → 8 ≡ length (addressBytes a)
+  unfolding addressBytes
   source-eight e = rw e (sym (length-le 8 n))
 
 module _ (j : JoiningInformation) where
@@ -73,7 +73,7 @@ group-is t count size e = rw e (omega arith)
 pub part-there : (j : JoiningInformation) (n : ℕ) → j .present ≡ true → n ≡ joiningSize j → 2 + n ≡ ifOn (j .present) (2 + joiningSize j) 0
 part-there j n on e = if-on _ _ (j .present) on (rw e)
 
-pub length-says : (b : Beacon) (q a g j : ℕ) → q ≡ length (sequenceBytes (b .sequence)) → a ≡ length (sourceBytes (b .source)) → g ≡ groupSize (b .timeslot) (b .slotframe .count) → j ≡ ifOn (b .joining .present) (2 + joiningSize (b .joining)) 0
+pub length-says : (b : Beacon) (q a g j : ℕ) → q ≡ length (sequenceBytes (b .sequence)) → a ≡ length (addressBytes (b .source)) → g ≡ groupSize (b .timeslot) (b .slotframe .count) → j ≡ ifOn (b .joining .present) (2 + joiningSize (b .joining)) 0
     → length (b .timeslot .timings) ≡ 12 → length (b .slotframe .links) ≡ 16 → length (b .joining .network) ≡ 16
     → (10 + q + a + g + j ≡ frameLength b) × (fits b ≡ true → 10 + q + a + g + j ≡ length (frameOf b))
 unfolding frameLength

@@ -3,8 +3,8 @@
 ghost use mathlib.Core.Path.{_≡_};
 ghost use Prim.Native.Nat.{_≤_};
 ghost use lib.ListN.{length};
-ghost use Rattle.eb_write_spec.specs.Limits.{sequenceFits, synchronizationFits, templateFits, linkFits, linkUnused, slotframeFits, addressFits, presentFits, absentFits, joiningFits, fits};
-ghost use Rattle.eb_record_spec.specs.Form.{sourceFits};
+ghost use Rattle.eb_write_spec.specs.Limits.{sequenceFits, synchronizationFits, templateFits, linkFits, linkUnused, slotframeFits, proxyFits, presentFits, absentFits, joiningFits, fits};
+ghost use Rattle.eb_record_spec.specs.Form.{addressFits};
 ghost use Rattle.eb_write_spec.specs.Range.{allFrom, below};
 use eb_record_spec::JoiningInformation;
 use eb_record_spec::Link;
@@ -28,7 +28,8 @@ const OVER_7_BITS: u8 = 0x80;
 // The first number that 12 bits do not hold.
 const OVER_12_BITS: u16 = 0x1000;
 
-fn sequence_fits(sequence: SequenceNumber) -> bool
+// Whether a sequence number has one byte: by its type it always has.
+pub fn sequence_fits(sequence: SequenceNumber) -> bool
     ensures { λ r. ⌜ r ≡ sequenceFits sequence ⌝ }
 {
     match sequence {
@@ -37,10 +38,11 @@ fn sequence_fits(sequence: SequenceNumber) -> bool
     }
 }
 
-fn source_fits(source: Address) -> bool
-    ensures { λ r. ⌜ r ≡ sourceFits source ⌝ }
+// Whether an address has the bytes that its kind has: by its type it always has.
+pub fn address_fits(address: Address) -> bool
+    ensures { λ r. ⌜ r ≡ addressFits address ⌝ }
 {
-    match source {
+    match address {
         Address::Short(number) => (number as u32) < OVER_2_BYTES,
         Address::Extended(number) => number <= LAST_8_BYTES,
     }
@@ -131,8 +133,8 @@ fn slotframe_fits(slotframe: eb_record_spec::Slotframe) -> bool
 }
 
 // The address fits by its type; without P it is unused.
-fn address_fits(joining: JoiningInformation) -> bool
-    ensures { λ r. ⌜ r ≡ addressFits joining ⌝ }
+fn proxy_fits(joining: JoiningInformation) -> bool
+    ensures { λ r. ⌜ r ≡ proxyFits joining ⌝ }
 {
     if joining.proxied {
         return true;
@@ -161,7 +163,7 @@ fn present_fits(joining: JoiningInformation) -> bool
     let used = crate::sizes::at_most_16(joining.length as u16);
     (joining.proxy < OVER_7_BITS)
         & ((joining.rank < OVER_12_BITS)
-            & (address_fits(joining)
+            & (proxy_fits(joining)
                 & ((joining.length < 17)
                     & (network_below(network, 0, used, OVER_1_BYTE)
                         & network_below(network, used, 16, 1)))))
@@ -197,7 +199,7 @@ pub fn within_limits(beacon: eb_record_spec::Beacon) -> bool
     let sequence = beacon.sequence;
     let source = beacon.source;
     sequence_fits(sequence)
-        & (source_fits(source)
+        & (address_fits(source)
             & (synchronization_fits(beacon.synchronization)
                 & (template_fits(beacon.timeslot)
                     & (slotframe_fits(beacon.slotframe) & joining_fits(beacon.joining)))))

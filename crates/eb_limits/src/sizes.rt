@@ -4,7 +4,7 @@ ghost use mathlib.Core.Bool.{true};
 ghost use Prim.Native.Nat.{_+_, _≤_, min};
 ghost use lib.ListN.{length, drop};
 ghost use Rattle.octets_spec.specs.Choice.{ifOn};
-ghost use Rattle.eb_write_spec.specs.Frame.{sequenceBytes, sourceBytes, lastWidth, templateSize, groupSize, joiningSize, frameOf, frameLength};
+ghost use Rattle.eb_write_spec.specs.Frame.{sequenceBytes, addressBytes, lastWidth, templateSize, groupSize, joiningSize, frameOf, frameLength};
 ghost use Rattle.eb_write_spec.specs.Limits.{fits};
 use eb_record_spec::JoiningInformation;
 use eb_record_spec::TimeslotTemplate;
@@ -26,11 +26,11 @@ pub fn sequence_size(sequence: SequenceNumber) -> usize
     }
 }
 
-// The bytes of a source address.
-pub fn source_size(source: Address) -> usize
-    ensures { λ r. ⌜ (r ≡ length (sourceBytes source)) × (r ≤ 8) ⌝ }
+// The bytes of an address.
+pub fn address_size(address: Address) -> usize
+    ensures { λ r. ⌜ (r ≡ length (addressBytes address)) × (r ≤ 8) ⌝ }
 {
-    match source {
+    match address {
         Address::Short(_) => SHORT_SIZE,
         Address::Extended(_) => EXTENDED_SIZE,
     }
@@ -99,7 +99,7 @@ pub fn frame_length(beacon: eb_record_spec::Beacon) -> usize
     let source = beacon.source;
     10
         + sequence_size(sequence)
-        + source_size(source)
+        + address_size(source)
         + group_size(beacon.timeslot, beacon.slotframe.count)
         + joining_part(beacon.joining)
 }

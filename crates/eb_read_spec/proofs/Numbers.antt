@@ -88,18 +88,6 @@ part-small s kind from to seen =
     either-eq Late _ _ (either-eq Late _ _ (once-small _) tt _ _) (either-eq Late _ _ (timeslot-small _ _ _) (either-eq Late _ _ (hopping-small _ _) (either-eq Late _ _ (slotframe-small _ _ _ _) (either-eq Late _ _ (joining-small _ _ _) tt _ _) _ _) _ _) _ _) _ _
 
 -- ---- the steps
-abbrev HeaderSmall : HeaderStep → Type 0
-HeaderSmall header.End = Unit
-HeaderSmall (header.Payload from) = Unit
-HeaderSmall (header.Element id from to) = Unit
-HeaderSmall (header.Fault number) = Late number
-
-header-small : (s : List ℕ) (at end : ℕ) → HeaderSmall (headerAt s at end)
-unfolding headerAt headerWord
-header-small s at end =
-    let P : HeaderStep → Type 0 = λ o. HeaderSmall o in
-    either-lt P _ _ (either-lt P _ _ tt (either-lt P _ _ tt (either-eq P _ _ tt (either-eq P _ _ (either-eq P _ _ tt tt _ _) (either-eq P _ _ (either-eq P _ _ tt tt _ _) tt _ _) _ _) _ _) _ _) _ _) tt _ _
-
 abbrev OuterSmall : OuterStep → Type 0
 OuterSmall outer.End = Unit
 OuterSmall (outer.Group from to) = Unit
@@ -125,19 +113,38 @@ inner-small s at end =
     let P : InnerStep → Type 0 = λ o. InnerSmall o in
     either-lt P _ _ (either-lt P _ _ tt (either-eq P _ _ (either-lt P _ _ tt tt _ _) (either-lt P _ _ tt tt _ _) _ _) _ _) tt _ _
 
--- ---- the lists: one step, given the rest of the list
-header-step : (bound : ℕ) (s : List ℕ) (at end : ℕ) → ((to : ℕ) → Late (headerGo bound s to end .fault)) → (o : HeaderStep) → headerAt s at end ≡ o → HeaderSmall o → Late (headerGo (suc bound) s at end .fault)
-unfolding headerGo inFront
-header-step bound s at end rest header.End e f = rw (e, headerGo) tt
-header-step bound s at end rest (header.Payload from) e f = rw (e, headerGo) tt
-header-step bound s at end rest (header.Element id from to) e f = rw (e, headerGo) (rest to)
-header-step bound s at end rest (header.Fault number) e f = rw (e, headerGo) f
+-- ---- the header list: its fault is a number of any kind that 0, 2 and 6 are of
+module _ (P : ℕ → Type 0) (none : P 0) (is-cut : P 2) (is-shape : P 6) where
+  abbrev Faults : HeaderStep → Type 0
+  Faults header.End = Unit
+  Faults (header.Payload from) = Unit
+  Faults (header.Element id from to) = Unit
+  Faults (header.Fault number) = P number
 
-header-go : (bound : ℕ) (s : List ℕ) (at end : ℕ) → Late (headerGo bound s at end .fault)
-unfolding headerGo
-header-go zero s at end = tt
-header-go (suc bound) s at end = header-step bound s at end (λ to. header-go bound s to end) (headerAt s at end) refl (header-small s at end)
+  header-faults : (s : List ℕ) (at end : ℕ) → Faults (headerAt s at end)
+  unfolding headerAt headerWord
+  header-faults s at end =
+      let Q : HeaderStep → Type 0 = λ o. Faults o in
+      either-lt Q _ _ (either-lt Q _ _ is-cut (either-lt Q _ _ is-cut (either-eq Q _ _ is-shape (either-eq Q _ _ (either-eq Q _ _ tt is-shape _ _) (either-eq Q _ _ (either-eq Q _ _ tt is-shape _ _) tt _ _) _ _) _ _) _ _) _ _) tt _ _
 
+  -- one step, given the rest of the list
+  header-step : (bound : ℕ) (s : List ℕ) (at end : ℕ) → ((to : ℕ) → P (headerGo bound s to end .fault)) → (o : HeaderStep) → headerAt s at end ≡ o → Faults o → P (headerGo (suc bound) s at end .fault)
+  unfolding headerGo inFront
+  header-step bound s at end rest header.End e f = rw (e, headerGo) none
+  header-step bound s at end rest (header.Payload from) e f = rw (e, headerGo) none
+  header-step bound s at end rest (header.Element id from to) e f = rw (e, headerGo) (rest to)
+  header-step bound s at end rest (header.Fault number) e f = rw (e, headerGo) f
+
+  header-go : (bound : ℕ) (s : List ℕ) (at end : ℕ) → P (headerGo bound s at end .fault)
+  unfolding headerGo
+  header-go zero s at end = none
+  header-go (suc bound) s at end = header-step bound s at end (λ to. header-go bound s to end) (headerAt s at end) refl (header-faults s at end)
+
+  pub header-fault : (s : List ℕ) (at end : ℕ) → P (headerList s at end .fault)
+  unfolding headerList
+  header-fault s at end = header-go (suc end) s at end
+
+-- ---- the payload list
 abbrev WalkSmall : Walk → Type 0
 WalkSmall w = Late (w .fault)
 
@@ -156,9 +163,9 @@ small-kept s end = record {
 }
 
 pub elements-small : (s : List ℕ) (at end : ℕ) → WalkSmall (elementsWalk s at end)
-unfolding elementsWalk behindHeader walkStart skippedBefore skippedOver headerList payloadList blankWalk
+unfolding elementsWalk behindHeader walkStart skippedBefore skippedOver payloadList blankWalk
 elements-small s at end =
-    let h : Late (headerGo (suc end) s at end .fault) = header-go (suc end) s at end in
+    let h : Late (headerList s at end .fault) = header-fault Late tt tt tt s at end in
     either-eq WalkSmall _ _ (either-eq WalkSmall _ _ h (list-keeps s end (λ at w. WalkSmall w) (small-kept s end) _ _ blankWalk tt .2) _ _) h _ _
 
 missing-small : (w : Walk) → Late (missing w)

@@ -9,7 +9,7 @@ use Rattle.mac_header_spec.specs.declared.SequenceNumber.the-variants.{Absent, 
 use Rattle.mac_header_spec.specs.declared.Address.{Address}
 use Rattle.mac_header_spec.specs.declared.Address.the-variants.{Short, Extended}
 use Rattle.eb_record_spec.specs.declared.BeaconForm.{BeaconForm}
-use Rattle.eb_record_spec.specs.Form.{sequenceFrom, sourceFrom, beaconOf, isBeacon}
+use Rattle.eb_record_spec.specs.Form.{sequenceFrom, addressFrom, beaconOf, isBeacon}
 
 pub form-tested : (form : BeaconForm) → (form .sequenced || eqb (form .sequence) 0) && (form .extended || ltb (form .source) 65536) ≡ isBeacon form
 unfolding isBeacon
@@ -24,18 +24,18 @@ module _ (mark : Bool) (number : ℕ) where
   unfolding sequenceFrom
   sequence-absent off = if-off _ _ mark off refl
 
-  pub source-extended : mark ≡ true → Extended number ≡ sourceFrom mark number
-  unfolding sourceFrom
-  source-extended on = if-on _ _ mark on refl
+  pub address-extended : mark ≡ true → Extended number ≡ addressFrom mark number
+  unfolding addressFrom
+  address-extended on = if-on _ _ mark on refl
 
-  pub source-short : mark ≡ false → Short (number % 65536) ≡ sourceFrom mark number
-  unfolding sourceFrom
-  source-short off = if-off _ _ mark off refl
+  pub address-short : mark ≡ false → Short (number % 65536) ≡ addressFrom mark number
+  unfolding addressFrom
+  address-short off = if-off _ _ mark off refl
 
 module _ (form : BeaconForm) where
-  pub beacon-is : (sequence : SequenceNumber) (source : Address) → sequence ≡ sequenceFrom (form .sequenced) (form .sequence) → source ≡ sourceFrom (form .extended) (form .source)
+  pub beacon-is : (sequence : SequenceNumber) (source : Address) → sequence ≡ sequenceFrom (form .sequenced) (form .sequence) → source ≡ addressFrom (form .extended) (form .source)
       → record { sequence = sequence; pan = form .pan; source = source; synchronization = form .synchronization; timeslot = form .timeslot; hopping = form .hopping; slotframe = form .slotframe; joining = form .joining } ≡ beaconOf form
   unfolding beaconOf
   beacon-is sequence source e f = rw (e, f)
 
-pub ruleset forms = (form-tested, sequence-there, sequence-absent, source-extended, source-short, beacon-is)
+pub ruleset forms = (form-tested, sequence-there, sequence-absent, address-extended, address-short, beacon-is)

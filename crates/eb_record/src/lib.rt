@@ -1,7 +1,7 @@
 // The record of a form without enums, as C has it, which forms are a record's (eb_record_spec/specs/Form.antt), and the blank record.
 ghost use mathlib.Core.Path.{_≡_};
 ghost use Rattle.eb_record_spec.specs.Record.{blankBeacon};
-ghost use Rattle.eb_record_spec.specs.Form.{formOf, sequenceFrom, sourceFrom, beaconOf, isBeacon};
+ghost use Rattle.eb_record_spec.specs.Form.{formOf, sequenceFrom, addressFrom, beaconOf, isBeacon};
 use eb_record_spec::Beacon;
 use eb_record_spec::BeaconForm;
 use mac_header_spec::Address;
@@ -14,7 +14,8 @@ pub fn is_beacon(form: BeaconForm) -> bool
     (form.sequenced | (form.sequence == 0)) & (form.extended | (form.source < 0x1_0000))
 }
 
-fn sequence_from(sequenced: bool, number: u8) -> SequenceNumber
+// A sequence number from its mark and its number.
+pub fn sequence_from(sequenced: bool, number: u8) -> SequenceNumber
     ensures { λ r. ⌜ r ≡ sequenceFrom sequenced number ⌝ }
 {
     if sequenced {
@@ -23,8 +24,9 @@ fn sequence_from(sequenced: bool, number: u8) -> SequenceNumber
     SequenceNumber::Absent
 }
 
-fn source_from(extended: bool, number: u64) -> Address
-    ensures { λ r. ⌜ r ≡ sourceFrom extended number ⌝ }
+// An address from its kind and its number.
+pub fn address_from(extended: bool, number: u64) -> Address
+    ensures { λ r. ⌜ r ≡ addressFrom extended number ⌝ }
 {
     if extended {
         return Address::Extended(number);
@@ -37,7 +39,7 @@ pub fn beacon_of(form: BeaconForm) -> Beacon
     ensures { λ r. ⌜ r ≡ beaconOf form ⌝ }
 {
     let sequence = sequence_from(form.sequenced, form.sequence);
-    let source = source_from(form.extended, form.source);
+    let source = address_from(form.extended, form.source);
     let synchronization = form.synchronization;
     let timeslot = form.timeslot;
     let slotframe = form.slotframe;

@@ -11,66 +11,66 @@ use Rattle.mac_header_spec.specs.declared.SequenceNumber.the-variants.{Absent, 
 use Rattle.mac_header_spec.specs.declared.Address.{Address}
 use Rattle.mac_header_spec.specs.declared.Address.the-variants.{Short, Extended}
 use Rattle.eb_record_spec.specs.declared.Beacon.{Beacon}
-use Rattle.eb_record_spec.specs.Form.{isSequenced, sequenceNumber, isExtended, addressNumber, formOf, sequenceFrom, sourceFrom, beaconOf, isBeacon, sourceFits, FormsGiveTheRecord, RecordsGiveTheForm, ExtendedHasItsForm, FormsOfNoRecord}
+use Rattle.eb_record_spec.specs.Form.{isSequenced, sequenceNumber, isExtended, addressNumber, formOf, sequenceFrom, addressFrom, beaconOf, isBeacon, addressFits, FormsGiveTheRecord, RecordsGiveTheForm, ExtendedHasItsForm, FormsOfNoRecord}
 
 -- ---- the sequence number
-abbrev sequenceTest : Bool → ℕ → Bool
+abbrev pub sequenceTest : Bool → ℕ → Bool
 sequenceTest mark n = mark || eqb n 0
 
-sequence-tested : (q : SequenceNumber) → sequenceTest (isSequenced q) (sequenceNumber q) ≡ true
+pub sequence-tested : (q : SequenceNumber) → sequenceTest (isSequenced q) (sequenceNumber q) ≡ true
 unfolding isSequenced sequenceNumber
 sequence-tested Absent = refl
 sequence-tested (Number n) = refl
 
-sequence-back : (q : SequenceNumber) → sequenceFrom (isSequenced q) (sequenceNumber q) ≡ q
+pub sequence-back : (q : SequenceNumber) → sequenceFrom (isSequenced q) (sequenceNumber q) ≡ q
 unfolding isSequenced sequenceNumber sequenceFrom ifOn
 sequence-back Absent = refl
 sequence-back (Number n) = refl
 
-sequence-mark : (mark : Bool) (n : ℕ) → isSequenced (sequenceFrom mark n) ≡ mark
+pub sequence-mark : (mark : Bool) (n : ℕ) → isSequenced (sequenceFrom mark n) ≡ mark
 unfolding isSequenced sequenceFrom ifOn
 sequence-mark true n = refl
 sequence-mark false n = refl
 
-sequence-number : (mark : Bool) (n : ℕ) → sequenceTest mark n ≡ true → sequenceNumber (sequenceFrom mark n) ≡ n
+pub sequence-number : (mark : Bool) (n : ℕ) → sequenceTest mark n ≡ true → sequenceNumber (sequenceFrom mark n) ≡ n
 unfolding sequenceNumber sequenceFrom ifOn
 sequence-number true n e = refl
 sequence-number false n e = sym (eqb-true n 0 e)
 
--- ---- the source
-abbrev sourceTest : Bool → ℕ → Bool
-sourceTest extended n = extended || ltb n (2 ^ 16)
+-- ---- an address
+abbrev pub addressTest : Bool → ℕ → Bool
+addressTest extended n = extended || ltb n (2 ^ 16)
 
-source-tested : (a : Address) → sourceFits a ≡ true → sourceTest (isExtended a) (addressNumber a) ≡ true
-unfolding isExtended addressNumber sourceFits
-source-tested (Short n) e = e
-source-tested (Extended n) e = refl
+pub address-tested : (a : Address) → addressFits a ≡ true → addressTest (isExtended a) (addressNumber a) ≡ true
+unfolding isExtended addressNumber addressFits
+address-tested (Short n) e = e
+address-tested (Extended n) e = refl
 
-source-back : (a : Address) → sourceTest (isExtended a) (addressNumber a) ≡ true → sourceFrom (isExtended a) (addressNumber a) ≡ a
-unfolding isExtended addressNumber sourceFrom ifOn
-source-back (Short n) e = ap Short (mod-eq-of-lt (ltb-true n 65536 e))
-source-back (Extended n) e = refl
+pub address-back : (a : Address) → addressTest (isExtended a) (addressNumber a) ≡ true → addressFrom (isExtended a) (addressNumber a) ≡ a
+unfolding isExtended addressNumber addressFrom ifOn
+address-back (Short n) e = ap Short (mod-eq-of-lt (ltb-true n 65536 e))
+address-back (Extended n) e = refl
 
-source-kind : (extended : Bool) (n : ℕ) → isExtended (sourceFrom extended n) ≡ extended
-unfolding isExtended sourceFrom ifOn
-source-kind true n = refl
-source-kind false n = refl
+pub address-kind : (extended : Bool) (n : ℕ) → isExtended (addressFrom extended n) ≡ extended
+unfolding isExtended addressFrom ifOn
+address-kind true n = refl
+address-kind false n = refl
 
-source-number : (extended : Bool) (n : ℕ) → sourceTest extended n ≡ true → addressNumber (sourceFrom extended n) ≡ n
-unfolding addressNumber sourceFrom ifOn
-source-number true n e = refl
-source-number false n e = mod-eq-of-lt (ltb-true n 65536 e)
+pub address-number : (extended : Bool) (n : ℕ) → addressTest extended n ≡ true → addressNumber (addressFrom extended n) ≡ n
+unfolding addressNumber addressFrom ifOn
+address-number true n e = refl
+address-number false n e = mod-eq-of-lt (ltb-true n 65536 e)
 
 -- ---- both
-pub form-fits : (beacon : Beacon) → sourceFits (beacon .source) ≡ true → isBeacon (formOf beacon) ≡ true
+pub form-fits : (beacon : Beacon) → addressFits (beacon .source) ≡ true → isBeacon (formOf beacon) ≡ true
 unfolding isBeacon formOf
-form-fits beacon fits = rw (sequence-tested (beacon .sequence), source-tested (beacon .source) fits)
+form-fits beacon fits = rw (sequence-tested (beacon .sequence), address-tested (beacon .source) fits)
 
 pub form-back : (beacon : Beacon) → isBeacon (formOf beacon) ≡ true → beaconOf (formOf beacon) ≡ beacon
 unfolding isBeacon formOf beaconOf
 form-back beacon is =
-    let source = and-eq-true-iff (sequenceTest (isSequenced (beacon .sequence)) (sequenceNumber (beacon .sequence))) (sourceTest (isExtended (beacon .source)) (addressNumber (beacon .source))) .0 is .1 in
-    rw (sequence-back (beacon .sequence), source-back (beacon .source) source)
+    let source = and-eq-true-iff (sequenceTest (isSequenced (beacon .sequence)) (sequenceNumber (beacon .sequence))) (addressTest (isExtended (beacon .source)) (addressNumber (beacon .source))) .0 is .1 in
+    rw (sequence-back (beacon .sequence), address-back (beacon .source) source)
 
 pub forms-give-the-record : FormsGiveTheRecord
 forms-give-the-record beacon fits = let is = form-fits beacon fits in (is, form-back beacon is)
@@ -79,11 +79,11 @@ pub records-give-the-form : RecordsGiveTheForm
 unfolding isBeacon formOf beaconOf
 records-give-the-form form is =
     let tests = and-eq-true-iff _ _ .0 is in
-    rw (sequence-mark (form .sequenced) (form .sequence), sequence-number (form .sequenced) (form .sequence) (tests .0), source-kind (form .extended) (form .source), source-number (form .extended) (form .source) (tests .1))
+    rw (sequence-mark (form .sequenced) (form .sequence), sequence-number (form .sequenced) (form .sequence) (tests .0), address-kind (form .extended) (form .source), address-number (form .extended) (form .source) (tests .1))
 
 -- a record with an extended source, and forms that are no record's: the checker computes them
 pub extended-has-its-form : ExtendedHasItsForm
-unfolding isSequenced sequenceNumber isExtended addressNumber formOf sequenceFrom sourceFrom beaconOf isBeacon sourceFits ifOn
+unfolding isSequenced sequenceNumber isExtended addressNumber formOf sequenceFrom addressFrom beaconOf isBeacon addressFits ifOn
 extended-has-its-form = (refl, refl, refl, refl)
 
 pub forms-of-no-record : FormsOfNoRecord

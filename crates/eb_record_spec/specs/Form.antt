@@ -53,15 +53,15 @@ unfoldable pub sequenceFrom : Bool → ℕ → SequenceNumber
 sequenceFrom sequenced number = ifOn sequenced (Number number) Absent
 
 -- an address from its kind and its number; a short one has 16 bits
-unfoldable pub sourceFrom : Bool → ℕ → Address
-sourceFrom extended number = ifOn extended (Extended number) (Short (number % 2 ^ 16))
+unfoldable pub addressFrom : Bool → ℕ → Address
+addressFrom extended number = ifOn extended (Extended number) (Short (number % 2 ^ 16))
 
 -- the record of a form
 unfoldable pub beaconOf : BeaconForm → Beacon
 beaconOf form = record {
   sequence = sequenceFrom (form .sequenced) (form .sequence);
   pan = form .pan;
-  source = sourceFrom (form .extended) (form .source);
+  source = addressFrom (form .extended) (form .source);
   synchronization = form .synchronization;
   timeslot = form .timeslot;
   hopping = form .hopping;
@@ -73,14 +73,14 @@ beaconOf form = record {
 unfoldable pub isBeacon : BeaconForm → Bool
 isBeacon form = (form .sequenced || eqb (form .sequence) 0) && (form .extended || ltb (form .source) (2 ^ 16))
 
--- a source address has the bytes that its kind has
-unfoldable pub sourceFits : Address → Bool
-sourceFits (Short number) = ltb number (2 ^ 16)
-sourceFits (Extended number) = ltb number (2 ^ 64)
+-- an address has the bytes that its kind has
+unfoldable pub addressFits : Address → Bool
+addressFits (Short number) = ltb number (2 ^ 16)
+addressFits (Extended number) = ltb number (2 ^ 64)
 
 -- a record whose source fits has a form that is a record's, and is the record of that form
 abbrev pub FormsGiveTheRecord : Type 0
-FormsGiveTheRecord = (beacon : Beacon) → sourceFits (beacon .source) ≡ true → (isBeacon (formOf beacon) ≡ true) × (beaconOf (formOf beacon) ≡ beacon)
+FormsGiveTheRecord = (beacon : Beacon) → addressFits (beacon .source) ≡ true → (isBeacon (formOf beacon) ≡ true) × (beaconOf (formOf beacon) ≡ beacon)
 
 -- a form that is a record's is the form of its record
 abbrev pub RecordsGiveTheForm : Type 0
@@ -119,7 +119,7 @@ blankForm sequenced sequence extended source = record {
 abbrev pub ExtendedHasItsForm : Type 0
 ExtendedHasItsForm =
     let beacon : Beacon = blankFrom (Number 7) (Extended (2 ^ 64 - 1)) in
-    (sourceFits (beacon .source) ≡ true) × (formOf beacon ≡ blankForm true 7 true (2 ^ 64 - 1)) × (isBeacon (formOf beacon) ≡ true) × (beaconOf (formOf beacon) ≡ beacon)
+    (addressFits (beacon .source) ≡ true) × (formOf beacon ≡ blankForm true 7 true (2 ^ 64 - 1)) × (isBeacon (formOf beacon) ≡ true) × (beaconOf (formOf beacon) ≡ beacon)
 
 -- forms that are no record's: a number where there is no sequence number, and a short source of 17 bits
 abbrev pub FormsOfNoRecord : Type 0

@@ -12,18 +12,18 @@ use lib.Seq.{take-at, drop-at}
 use Rattle.octets_spec.specs.Choice.{ifOn}
 use Rattle.octets_spec.proofs.ChoiceLaws.{if-lt, either-lt, by-test}
 use Rattle.eb_record_spec.specs.Record.{blankLink}
-use Rattle.eb_record_spec.specs.Form.{sourceFits}
+use Rattle.eb_record_spec.specs.Form.{addressFits}
 use Rattle.mac_header_spec.specs.declared.SequenceNumber.{SequenceNumber}
 use Rattle.mac_header_spec.specs.declared.Address.{Address}
 use Rattle.eb_record_spec.specs.declared.TimeslotTemplate.{TimeslotTemplate}
 use Rattle.eb_record_spec.specs.declared.Link.{Link}
 use Rattle.eb_record_spec.specs.declared.Slotframe.{Slotframe}
 use Rattle.eb_record_spec.specs.declared.JoiningInformation.{JoiningInformation}
-use Rattle.eb_write_spec.specs.Frame.{sequenceBytes, sourceBytes, lastWidth, templateSize, flag, joiningSize}
-use Rattle.eb_write_spec.specs.Limits.{allOf, allBelow, sequenceFits, templateFits, linkFits, linkUnused, slotframeFits, addressFits, presentFits, absentFits, joiningFits}
+use Rattle.eb_write_spec.specs.Frame.{sequenceBytes, addressBytes, lastWidth, templateSize, flag, joiningSize}
+use Rattle.eb_write_spec.specs.Limits.{allOf, allBelow, sequenceFits, templateFits, linkFits, linkUnused, slotframeFits, proxyFits, presentFits, absentFits, joiningFits}
 use Rattle.eb_write_spec.proofs.LengthLaws.{length-le}
 use Rattle.eb_grammar_spec.specs.Row.{le, be, bits}
-use Rattle.eb_grammar_spec.specs.Grammar.{SequenceBytes, numbered, suppressed, SourceBytes, short-source, extended-source, FixedFields, fixed-fields, TimeslotContent, id-alone, timed-25, timed-27, Links, no-links, one-link, SlotframeContent, slotframe, JoiningContent, absent, joining}
+use Rattle.eb_grammar_spec.specs.Grammar.{SequenceBytes, numbered, suppressed, AddressBytes, short-address, extended-address, FixedFields, fixed-fields, TimeslotContent, id-alone, timed-25, timed-27, Links, no-links, one-link, SlotframeContent, slotframe, JoiningContent, absent, joining}
 use Rattle.eb_grammar_spec.proofs.Rowed.{total, row-length}
 use Rattle.eb_grammar_spec.proofs.Joined.{nothing}
 use Rattle.eb_round_trip_spec.proofs.AllBytes.{All, parts, first-byte, behind-byte, below-all, le-small, be-small, Bounded, row-bounded, bounded-take, row-entry, Each, weights, also, all-blank}
@@ -34,16 +34,16 @@ unfolding sequenceFits sequenceBytes
 sequence-fits _ _ _ (numbered n) all = (lt-ltb _ _ (first-byte all), sym (length-le 1 n))
 sequence-fits _ _ _ suppressed all = (refl, refl)
 
-source-fits : (m : ℕ) (xs : List ℕ) (a : Address) → SourceBytes m xs a → All xs → (sourceFits a ≡ true) × (length xs ≡ length (sourceBytes a))
-unfolding sourceFits sourceBytes
-source-fits _ _ _ (short-source xs e) all = (lt-ltb _ _ (rw e at (le-small xs all)), e ∙ sym (length-le 2 (le xs)))
-source-fits _ _ _ (extended-source xs e) all = (lt-ltb _ _ (rw e at (le-small xs all)), e ∙ sym (length-le 8 (le xs)))
+source-fits : (m : ℕ) (xs : List ℕ) (a : Address) → AddressBytes m xs a → All xs → (addressFits a ≡ true) × (length xs ≡ length (addressBytes a))
+unfolding addressFits addressBytes
+source-fits _ _ _ (short-address xs e) all = (lt-ltb _ _ (rw e at (le-small xs all)), e ∙ sym (length-le 2 (le xs)))
+source-fits _ _ _ (extended-address xs e) all = (lt-ltb _ _ (rw e at (le-small xs all)), e ∙ sym (length-le 8 (le xs)))
 
 pub record FieldsFit (size : ℕ) (n : SequenceNumber) (p : ℕ) (a : Address) : Type 0 where
   pub sequence : sequenceFits n ≡ true
   pub pan : ltb p (2 ^ 16) ≡ true
-  pub source : sourceFits a ≡ true
-  pub long : size ≡ 6 + length (sequenceBytes n) + length (sourceBytes a)
+  pub source : addressFits a ≡ true
+  pub long : size ≡ 6 + length (sequenceBytes n) + length (addressBytes a)
 
 pub fields-fit : (xs : List ℕ) (n : SequenceNumber) (p : ℕ) (a : Address) → FixedFields xs n p a → All xs → FieldsFit (length xs) n p a
 fields-fit _ _ _ _ (fixed-fields l h p q {sequence} {source} c n-says a-says) all =
@@ -132,15 +132,15 @@ flag-most : (bit : ℕ) → flag (eqb bit 1) ≤ bit
 unfolding ifOn
 flag-most bit = by-test (eqb bit 1) (λ t. rw t (omega (arith, eqb-true bit 1 t))) (λ t. rw t (omega arith))
 
-address-fits : (bit : ℕ) (xs : List ℕ) → bit < 2 → length xs ≡ 8 * bit → All xs → ifOn (eqb bit 1) (ltb (be xs) (2 ^ 64)) (eqb (be xs) 0) ≡ true
+proxy-fits : (bit : ℕ) (xs : List ℕ) → bit < 2 → length xs ≡ 8 * bit → All xs → ifOn (eqb bit 1) (ltb (be xs) (2 ^ 64)) (eqb (be xs) 0) ≡ true
 unfolding ifOn
-address-fits bit xs two e all =
+proxy-fits bit xs two e all =
     by-test (eqb bit 1)
     (λ t. let eight : length xs ≡ 8 = omega (arith, e, eqb-true bit 1 t) in rw t (lt-ltb _ _ (rw eight at (be-small xs all))))
     (λ t. let not : bit ≡ 1 → ⊥ = eqb-false bit 1 t in rw t (eq-eqb _ _ (nothing xs (omega (arith, e, not, two)))))
 
 pub joining-fits : (cs : List (List ℕ)) (j : JoiningInformation) → JoiningContent cs j → Each cs → JoiningFits cs j
-unfolding joiningFits presentFits absentFits addressFits joiningSize ifOn allBelow allOf
+unfolding joiningFits presentFits absentFits proxyFits joiningSize ifOn allBelow allOf
 joining-fits _ _ absent all = record { within = refl; sized = refl; most = omega arith }
 joining-fits _ _ (joining word address network four eight few) (all, _) =
     let cut = parts word (address ++ network) all in
@@ -152,7 +152,7 @@ joining-fits _ _ (joining word address network four eight few) (all, _) =
     let unused : allBelow 1 (drop (length network) (network ++ blank)) ≡ true = rw (drop-at network blank (length network) refl) (all-blank (λ (k : ℕ). ltb k 1) (16 - length network) 0 refl) in
     record {
       within = also (lt-ltb _ _ (mod-lt (n / 2 ^ 20) {m = 128} (lit< tt))) (also (lt-ltb _ _ (mod-lt (n / 2 ^ 8) {m = 4096} (lit< tt))) (also (lt-ltb _ _ (mod-lt (n / 1) {m = 256} (lit< tt)))
-          (also (address-fits (bits 30 1 n) address (mod-lt (n / 2 ^ 30) {m = 2} (lit< tt)) eight (cut′ .0)) (also (lt-ltb _ _ short)
+          (also (proxy-fits (bits 30 1 n) address (mod-lt (n / 2 ^ 30) {m = 2} (lit< tt)) eight (cut′ .0)) (also (lt-ltb _ _ short)
           (also used unused)))));
       sized = length-append network blank ∙ omega (arith, length-replicate {A = ℕ} (16 - length network) 0, few);
       most = omega (arith, flag-most (bits 30 1 n), four, eight, length-append word (address ++ network), length-append address network);

@@ -16,8 +16,8 @@ use Rattle.eb_record_spec.specs.declared.Link.{Link}
 use Rattle.eb_record_spec.specs.declared.Slotframe.{Slotframe}
 use Rattle.eb_record_spec.specs.declared.JoiningInformation.{JoiningInformation}
 use Rattle.eb_record_spec.specs.declared.Beacon.{Beacon}
-use Rattle.eb_write_spec.specs.Limits.{allOf, allBelow, sequenceFits, synchronizationFits, templateFits, linkFits, linkUnused, slotframeFits, addressFits, presentFits, absentFits, joiningFits, fits}
-use Rattle.eb_record_spec.specs.Form.{sourceFits}
+use Rattle.eb_write_spec.specs.Limits.{allOf, allBelow, sequenceFits, synchronizationFits, templateFits, linkFits, linkUnused, slotframeFits, proxyFits, presentFits, absentFits, joiningFits, fits}
+use Rattle.eb_record_spec.specs.Form.{addressFits}
 use Rattle.eb_round_trip_spec.specs.ReadBack.{Sized}
 
 -- each test of a row of them
@@ -174,9 +174,9 @@ pub record PresentWithin (j : JoiningInformation) : Type 0 where
   pub unused : drop (j .length) (j .network) ≡ replicate (16 - j .length) 0
 
 present-within : (j : JoiningInformation) → length (j .network) ≡ 16 → presentFits j ≡ true → PresentWithin j
-unfolding presentFits addressFits allBelow
+unfolding presentFits proxyFits allBelow
 present-within j sized h =
-    let k = each (ltb (j .proxy) 128 ∷ ltb (j .rank) 4096 ∷ ltb (j .pan) 256 ∷ addressFits j ∷ ltb (j .length) 17 ∷ allBelow 256 (take (j .length) (j .network)) ∷ allBelow 1 (drop (j .length) (j .network)) ∷ []) h in
+    let k = each (ltb (j .proxy) 128 ∷ ltb (j .rank) 4096 ∷ ltb (j .pan) 256 ∷ proxyFits j ∷ ltb (j .length) 17 ∷ allBelow 256 (take (j .length) (j .network)) ∷ allBelow 1 (drop (j .length) (j .network)) ∷ []) h in
     record {
       proxy = ltb-true _ _ (k 0);
       rank = ltb-true _ _ (k 1);
@@ -200,7 +200,7 @@ absent-within j sized h e =
 pub record Within (b : Beacon) : Type 0 where
   pub sequence : sequenceFits (b .sequence) ≡ true
   pub pan : b .pan < 2 ^ 16
-  pub source : sourceFits (b .source) ≡ true
+  pub source : addressFits (b .source) ≡ true
   pub synchronization : SynchronizationWithin (b .synchronization)
   pub timeslot : TemplateWithin (b .timeslot)
   pub hopping : b .hopping < 256
@@ -211,7 +211,7 @@ pub record Within (b : Beacon) : Type 0 where
 pub within-limits : (b : Beacon) → Sized b → fits b ≡ true → Within b
 unfolding fits joiningFits
 within-limits b sized h =
-    let k = each (sequenceFits (b .sequence) ∷ ltb (b .pan) (2 ^ 16) ∷ sourceFits (b .source) ∷ synchronizationFits (b .synchronization) ∷ templateFits (b .timeslot) ∷ ltb (b .hopping) 256 ∷ slotframeFits (b .slotframe) ∷ joiningFits (b .joining) ∷ []) h in
+    let k = each (sequenceFits (b .sequence) ∷ ltb (b .pan) (2 ^ 16) ∷ addressFits (b .source) ∷ synchronizationFits (b .synchronization) ∷ templateFits (b .timeslot) ∷ ltb (b .hopping) 256 ∷ slotframeFits (b .slotframe) ∷ joiningFits (b .joining) ∷ []) h in
     record {
       sequence = k 0;
       pan = ltb-true _ _ (k 1);

@@ -7,7 +7,7 @@ use lib.ListN.{length}
 use Rattle.octets_spec.proofs.ChoiceLaws.{if-on, if-eq, if-ne}
 use Rattle.eb_record_spec.specs.declared.Beacon.{Beacon}
 use Rattle.eb_record_spec.specs.declared.BeaconForm.{BeaconForm}
-use Rattle.eb_record_spec.specs.Form.{formOf, beaconOf, isBeacon, sourceFits}
+use Rattle.eb_record_spec.specs.Form.{formOf, beaconOf, isBeacon, addressFits}
 use Rattle.eb_record_spec.proofs.FormLaws.{forms-give-the-record, records-give-the-form}
 use Rattle.eb_write_spec.specs.declared.Written.{Written}
 use Rattle.eb_write_spec.specs.Frame.{frameOf}
@@ -27,9 +27,9 @@ use Rattle.eb_round_trip_spec.proofs.NotLonger.{accepted-fits, read-siz
 use Rattle.eb_round_trip_spec.proofs.Shortest.{shortest-is-written-back}
 
 module _ (beacon : Beacon) (within : fits beacon ≡ true) where
-  source-fits : sourceFits (beacon .source) ≡ true
+  source-fits : addressFits (beacon .source) ≡ true
   unfolding fits
-  source-fits = on (sourceFits (beacon .source)) (λ h. simp (h, and-false) at within)
+  source-fits = on (addressFits (beacon .source)) (λ h. simp (h, and-false) at within)
 
   is-beacon : isBeacon (formOf beacon) ≡ true
   is-beacon = forms-give-the-record beacon source-fits .0

@@ -12,7 +12,7 @@ use Rattle.mac_header_spec.specs.declared.SequenceNumber.the-variants.{Absent, 
 use Rattle.mac_header_spec.specs.declared.Address.{Address}
 use Rattle.mac_header_spec.specs.declared.Address.the-variants.{Short, Extended}
 use Rattle.eb_record_spec.specs.declared.JoiningInformation.{JoiningInformation}
-use Rattle.eb_write_spec.specs.Frame.{sequenceBytes, sourceBytes, groupSize, joiningSize, frameLength}
+use Rattle.eb_write_spec.specs.Frame.{sequenceBytes, addressBytes, groupSize, joiningSize, frameLength}
 use Rattle.eb_write_spec.specs.Limits.{presentFits, absentFits, joiningFits}
 use Rattle.eb_write_spec.proofs.LengthLaws.{short-network, slotframe-on, joining-on, length-frame}
 use Rattle.eb_round_trip_spec.specs.ReadBack.{LengthIsTheFormula, LengthsFrom38To177}
@@ -28,8 +28,8 @@ unfolding sequenceBytes leBytes
 sequence-length Absent = omega arith
 sequence-length (Number n) = omega arith
 
-source-length : (a : Address) → (2 ≤ length (sourceBytes a)) × (length (sourceBytes a) ≤ 8)
-unfolding sourceBytes leBytes
+source-length : (a : Address) → (2 ≤ length (addressBytes a)) × (length (addressBytes a) ≤ 8)
+unfolding addressBytes leBytes
 source-length (Short n) = omega arith
 source-length (Extended n) = omega arith
 

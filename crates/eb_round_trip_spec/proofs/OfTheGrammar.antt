@@ -24,14 +24,14 @@ use Rattle.eb_record_spec.specs.declared.Link.{Link}
 use Rattle.eb_record_spec.specs.declared.Slotframe.{Slotframe}
 use Rattle.eb_record_spec.specs.declared.JoiningInformation.{JoiningInformation}
 use Rattle.eb_record_spec.specs.declared.Beacon.{Beacon}
-use Rattle.eb_write_spec.specs.Frame.{suppressedBit, sequenceBytes, sourceMode, sourceBytes, controlWord, macHeaderBytes, headerDescriptor, groupDescriptor, shortDescriptor, longDescriptor, numbersIn, lastWidth, synchronizationBytes, timingsBytes, templateSize, templateBytes, hoppingBytes, linkBytes, linksBytes, slotframeBytes, groupSize, groupBytes, flag, joiningWord, joiningSize, joiningBytes, frameOf}
+use Rattle.eb_write_spec.specs.Frame.{suppressedBit, sequenceBytes, addressMode, addressBytes, controlWord, macHeaderBytes, headerDescriptor, groupDescriptor, shortDescriptor, longDescriptor, numbersIn, lastWidth, synchronizationBytes, timingsBytes, templateSize, templateBytes, hoppingBytes, linkBytes, linksBytes, slotframeBytes, groupSize, groupBytes, flag, joiningWord, joiningSize, joiningBytes, frameOf}
 use Rattle.eb_write_spec.specs.Limits.{sequenceFits}
-use Rattle.eb_record_spec.specs.Form.{sourceFits}
+use Rattle.eb_record_spec.specs.Form.{addressFits}
 use Rattle.eb_write_spec.proofs.LengthLaws.{length-le, length-be, length-template, length-links, length-group}
 use Rattle.eb_round_trip_spec.specs.ReadBack.{Writable}
 use Rattle.eb_round_trip_spec.proofs.Fitting.{SynchronizationWithin, TemplateWithin, LinkWithin, SlotframeWithin, PresentWithin, Within, within-limits, below-at}
 use Rattle.eb_grammar_spec.specs.Row.{le, be, bits, Row, last, next}
-use Rattle.eb_grammar_spec.specs.Grammar.{Descriptor, Element, contents, short-id, long-id, SubElements, group-end, sub-element, PayloadElements, bytes-end, payload-element, mlme, ietf-element, header-end, TimeslotContent, id-alone, timed-25, timed-27, Links, no-links, one-link, SlotframeContent, slotframe, JoiningContent, absent, joining, Says, FrameControl, SequenceBytes, numbered, suppressed, SourceBytes, short-source, extended-source, FixedFields, fixed-fields, Accepts}
+use Rattle.eb_grammar_spec.specs.Grammar.{Descriptor, Element, contents, short-id, long-id, SubElements, group-end, sub-element, PayloadElements, bytes-end, payload-element, mlme, ietf-element, header-end, TimeslotContent, id-alone, timed-25, timed-27, Links, no-links, one-link, SlotframeContent, slotframe, JoiningContent, absent, joining, Says, FrameControl, SequenceBytes, numbered, suppressed, AddressBytes, short-address, extended-address, FixedFields, fixed-fields, Accepts}
 use Rattle.eb_grammar_spec.proofs.Joined.{joiningSaid}
 
 -- ---- numbers
@@ -82,8 +82,8 @@ long-sub id size c rest found small e fits more =
     sub-element (n % 256) (n / 256 % 256) (128 + id) c (long-id id d) more
 
 -- ---- the opening
-control : (q : SequenceNumber) (a : Address) → FrameControl (le (leBytes 2 (controlWord q a))) (suppressedBit q) (sourceMode a)
-unfolding le leBytes controlWord suppressedBit sourceMode
+control : (q : SequenceNumber) (a : Address) → FrameControl (le (leBytes 2 (controlWord q a))) (suppressedBit q) (addressMode a)
+unfolding le leBytes controlWord suppressedBit addressMode
 control Absent (Short n) = record { type = refl; security = refl; compression = refl; suppression = refl; elements = refl; destination = refl; version = refl; source = refl }
 control Absent (Extended n) = record { type = refl; security = refl; compression = refl; suppression = refl; elements = refl; destination = refl; version = refl; source = refl }
 control (Number m) (Short n) = record { type = refl; security = refl; compression = refl; suppression = refl; elements = refl; destination = refl; version = refl; source = refl }
@@ -97,12 +97,12 @@ unfolding suppressedBit sequenceBytes leBytes sequenceFits
 number Absent fits = suppressed
 number (Number n) fits = rw (byte n (ltb-true n 256 fits)) (numbered n)
 
-address : (a : Address) → sourceFits a ≡ true → SourceBytes (sourceMode a) (sourceBytes a) a
-unfolding sourceMode sourceBytes sourceFits
-address (Short n) fits = rw (le-of 2 n (ltb-true _ _ fits)) at (short-source (leBytes 2 n) (length-le 2 n))
-address (Extended n) fits = rw (le-of 8 n (ltb-true _ _ fits)) at (extended-source (leBytes 8 n) (length-le 8 n))
+address : (a : Address) → addressFits a ≡ true → AddressBytes (addressMode a) (addressBytes a) a
+unfolding addressMode addressBytes addressFits
+address (Short n) fits = rw (le-of 2 n (ltb-true _ _ fits)) at (short-address (leBytes 2 n) (length-le 2 n))
+address (Extended n) fits = rw (le-of 8 n (ltb-true _ _ fits)) at (extended-address (leBytes 8 n) (length-le 8 n))
 
-opens : (q : SequenceNumber) (pan : ℕ) (a : Address) → sequenceFits q ≡ true → pan < 2 ^ 16 → sourceFits a ≡ true → FixedFields (macHeaderBytes q pan a) q pan a
+opens : (q : SequenceNumber) (pan : ℕ) (a : Address) → sequenceFits q ≡ true → pan < 2 ^ 16 → addressFits a ≡ true → FixedFields (macHeaderBytes q pan a) q pan a
 unfolding macHeaderBytes leBytes
 opens q pan a q-fits fits a-fits =
     let w : ℕ = controlWord q a in

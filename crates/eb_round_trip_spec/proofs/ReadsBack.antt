@@ -16,7 +16,7 @@ use Rattle.eb_record_spec.specs.declared.TimeslotTemplate.{TimeslotTemplate}
 use Rattle.eb_record_spec.specs.declared.Slotframe.{Slotframe}
 use Rattle.eb_record_spec.specs.declared.JoiningInformation.{JoiningInformation}
 use Rattle.eb_record_spec.specs.declared.Beacon.{Beacon}
-use Rattle.eb_write_spec.specs.Frame.{sequenceBytes, sourceBytes, macHeaderBytes, headerDescriptor, groupDescriptor, shortDescriptor, longDescriptor, numbersIn, synchronizationBytes, timingsBytes, templateBytes, hoppingBytes, linkBytes, linksBytes, slotframeBytes, groupBytes, joiningBytes, frameOf}
+use Rattle.eb_write_spec.specs.Frame.{sequenceBytes, addressBytes, macHeaderBytes, headerDescriptor, groupDescriptor, shortDescriptor, longDescriptor, numbersIn, synchronizationBytes, timingsBytes, templateBytes, hoppingBytes, linkBytes, linksBytes, slotframeBytes, groupBytes, joiningBytes, frameOf}
 use Rattle.eb_write_spec.specs.Limits.{allBelow, presentFits, absentFits, joiningFits, fits}
 use Rattle.eb_read_spec.specs.Read.{readFrame}
 use Rattle.eb_read_spec.specs.declared.ReadAnswer.{ReadAnswer}
@@ -62,8 +62,8 @@ unfolding sequenceBytes
 all-sequence Absent = none
 all-sequence (Number n) = all-le 1 n
 
-all-source : (a : Address) → All (sourceBytes a)
-unfolding sourceBytes
+all-source : (a : Address) → All (addressBytes a)
+unfolding addressBytes
 all-source (Short n) = all-le 2 n
 all-source (Extended n) = all-le 8 n
 

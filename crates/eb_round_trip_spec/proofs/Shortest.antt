@@ -11,9 +11,9 @@ use Rattle.eb_record_spec.specs.Record.{blankLink}
 use Rattle.mac_header_spec.specs.declared.SequenceNumber.the-variants.{Absent, Number}
 use Rattle.mac_header_spec.specs.declared.Address.the-variants.{Short, Extended}
 use Rattle.eb_record_spec.specs.declared.Beacon.{Beacon}
-use Rattle.eb_write_spec.specs.Frame.{suppressedBit, sequenceBytes, sourceMode, sourceBytes, controlWord, macHeaderBytes, headerDescriptor, groupDescriptor, shortDescriptor, longDescriptor, numbersIn, synchronizationBytes, lastWidth, timingsBytes, templateSize, templateBytes, hoppingBytes, linkBytes, linksBytes, slotframeBytes, groupSize, groupBytes, joiningWord, joiningSize, joiningBytes, frameOf, frameLength}
-use Rattle.eb_write_spec.specs.Limits.{allOf, allBelow, sequenceFits, synchronizationFits, templateFits, linkFits, linkUnused, slotframeFits, addressFits, presentFits, absentFits, joiningFits, fits}
-use Rattle.eb_record_spec.specs.Form.{sourceFits}
+use Rattle.eb_write_spec.specs.Frame.{suppressedBit, sequenceBytes, addressMode, addressBytes, controlWord, macHeaderBytes, headerDescriptor, groupDescriptor, shortDescriptor, longDescriptor, numbersIn, synchronizationBytes, lastWidth, timingsBytes, templateSize, templateBytes, hoppingBytes, linkBytes, linksBytes, slotframeBytes, groupSize, groupBytes, joiningWord, joiningSize, joiningBytes, frameOf, frameLength}
+use Rattle.eb_write_spec.specs.Limits.{allOf, allBelow, sequenceFits, synchronizationFits, templateFits, linkFits, linkUnused, slotframeFits, proxyFits, presentFits, absentFits, joiningFits, fits}
+use Rattle.eb_record_spec.specs.Form.{addressFits}
 use Rattle.eb_round_trip_spec.specs.ReadBack.{Writable, LengthsAreMet, FullRecordIsWritable}
 use Rattle.eb_round_trip_spec.specs.Accepted.{ShortestIsWrittenBack}
 use Rattle.eb_read_spec.specs.Witnesses.{shortest, shortestRecord}
@@ -59,34 +59,34 @@ full = record {
 }
 
 small-writable : Writable small
-unfolding sequenceBytes suppressedBit sourceMode sourceBytes controlWord macHeaderBytes headerDescriptor groupDescriptor shortDescriptor longDescriptor numbersIn synchronizationBytes lastWidth timingsBytes templateSize templateBytes hoppingBytes linkBytes linksBytes slotframeBytes groupSize groupBytes joiningWord joiningSize joiningBytes frameOf leBytes beBytes ifOn ifLt allOf allBelow sequenceFits sourceFits synchronizationFits templateFits linkFits linkUnused slotframeFits addressFits presentFits absentFits joiningFits fits
+unfolding sequenceBytes suppressedBit addressMode addressBytes controlWord macHeaderBytes headerDescriptor groupDescriptor shortDescriptor longDescriptor numbersIn synchronizationBytes lastWidth timingsBytes templateSize templateBytes hoppingBytes linkBytes linksBytes slotframeBytes groupSize groupBytes joiningWord joiningSize joiningBytes frameOf leBytes beBytes ifOn ifLt allOf allBelow sequenceFits addressFits synchronizationFits templateFits linkFits linkUnused slotframeFits proxyFits presentFits absentFits joiningFits fits
 small-writable = record { sized = record { timings = refl; links = refl; network = refl }; within = refl; short = omega arith }
 
 small-38 : frameLength small ≡ 38
-unfolding frameLength sequenceBytes sourceBytes leBytes groupSize templateSize joiningSize ifOn
+unfolding frameLength sequenceBytes addressBytes leBytes groupSize templateSize joiningSize ifOn
 small-38 = refl
 
 large-fits : fits large ≡ true
-unfolding ifOn ifLt allOf allBelow sequenceFits sourceFits synchronizationFits templateFits linkFits linkUnused slotframeFits addressFits presentFits absentFits joiningFits fits
+unfolding ifOn ifLt allOf allBelow sequenceFits addressFits synchronizationFits templateFits linkFits linkUnused slotframeFits proxyFits presentFits absentFits joiningFits fits
 large-fits = refl
 
 large-177 : frameLength large ≡ 177
-unfolding frameLength sequenceBytes sourceBytes leBytes groupSize templateSize joiningSize lastWidth ifOn ifLt
+unfolding frameLength sequenceBytes addressBytes leBytes groupSize templateSize joiningSize lastWidth ifOn ifLt
 large-177 = refl
 
 pub lengths-are-met : LengthsAreMet
 lengths-are-met = ((small, small-writable, small-38), (large, large-fits, large-177))
 
 full-writable : Writable full
-unfolding sequenceBytes suppressedBit sourceMode sourceBytes controlWord macHeaderBytes headerDescriptor groupDescriptor shortDescriptor longDescriptor numbersIn synchronizationBytes lastWidth timingsBytes templateSize templateBytes hoppingBytes linkBytes linksBytes slotframeBytes groupSize groupBytes joiningWord joiningSize joiningBytes frameOf leBytes beBytes ifOn ifLt allOf allBelow sequenceFits sourceFits synchronizationFits templateFits linkFits linkUnused slotframeFits addressFits presentFits absentFits joiningFits fits
+unfolding sequenceBytes suppressedBit addressMode addressBytes controlWord macHeaderBytes headerDescriptor groupDescriptor shortDescriptor longDescriptor numbersIn synchronizationBytes lastWidth timingsBytes templateSize templateBytes hoppingBytes linkBytes linksBytes slotframeBytes groupSize groupBytes joiningWord joiningSize joiningBytes frameOf leBytes beBytes ifOn ifLt allOf allBelow sequenceFits addressFits synchronizationFits templateFits linkFits linkUnused slotframeFits proxyFits presentFits absentFits joiningFits fits
 full-writable = record { sized = record { timings = refl; links = refl; network = refl }; within = refl; short = omega arith }
 
 pub full-record-is-writable : FullRecordIsWritable
-unfolding sourceMode
+unfolding addressMode
 full-record-is-writable = (full, full-writable, refl, refl, omega arith, refl, refl)
 
 record-is-written : frameOf shortestRecord ≡ shortest
-unfolding ifOn ifLt leBytes beBytes suppressedBit sequenceBytes sourceMode sourceBytes controlWord macHeaderBytes headerDescriptor groupDescriptor shortDescriptor longDescriptor numbersIn synchronizationBytes lastWidth timingsBytes templateSize templateBytes hoppingBytes linkBytes linksBytes slotframeBytes groupSize groupBytes joiningWord joiningSize joiningBytes frameOf
+unfolding ifOn ifLt leBytes beBytes suppressedBit sequenceBytes addressMode addressBytes controlWord macHeaderBytes headerDescriptor groupDescriptor shortDescriptor longDescriptor numbersIn synchronizationBytes lastWidth timingsBytes templateSize templateBytes hoppingBytes linkBytes linksBytes slotframeBytes groupSize groupBytes joiningWord joiningSize joiningBytes frameOf
 record-is-written = refl
 
 pub shortest-is-written-back : ShortestIsWrittenBack

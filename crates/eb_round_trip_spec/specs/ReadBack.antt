@@ -8,7 +8,7 @@ use Rattle.refusal.specs.Refusal.{done}
 use Rattle.eb_record_spec.specs.declared.Beacon.{Beacon}
 use Rattle.eb_record_spec.specs.declared.BeaconForm.{BeaconForm}
 use Rattle.eb_record_spec.specs.Form.{formOf, beaconOf}
-use Rattle.eb_write_spec.specs.Frame.{sourceMode, frameOf, frameLength}
+use Rattle.eb_write_spec.specs.Frame.{addressMode, frameOf, frameLength}
 use Rattle.eb_write_spec.specs.Limits.{fits}
 use Rattle.eb_write_spec.specs.Form.{formWritten}
 use Rattle.eb_read_spec.specs.Read.{readFrame}
@@ -63,4 +63,4 @@ LengthsAreMet = ((beacon : Beacon) × Writable beacon × (frameLength beacon ≡
 -- what the theorems ask of a record is met by one with timings, an extended source, several links and joining information with an address
 abbrev pub FullRecordIsWritable : Type 0
 FullRecordIsWritable =
-    (beacon : Beacon) × Writable beacon × (beacon .timeslot .timed ≡ true) × (sourceMode (beacon .source) ≡ 3) × (1 < beacon .slotframe .count) × (beacon .joining .present ≡ true) × (beacon .joining .proxied ≡ true)
+    (beacon : Beacon) × Writable beacon × (beacon .timeslot .timed ≡ true) × (addressMode (beacon .source) ≡ 3) × (1 < beacon .slotframe .count) × (beacon .joining .present ≡ true) × (beacon .joining .proxied ≡ true)

@@ -19,7 +19,7 @@ use Rattle.eb_record_spec.specs.declared.Link.{Link}
 use Rattle.eb_record_spec.specs.declared.Slotframe.{Slotframe}
 use Rattle.eb_record_spec.specs.declared.JoiningInformation.{JoiningInformation}
 use Rattle.eb_record_spec.specs.declared.Beacon.{Beacon}
-use Rattle.eb_write_spec.specs.Frame.{macHeaderBytes, sequenceBytes, sourceBytes, headerDescriptor, groupDescriptor, shortDescriptor, longDescriptor, numbersIn, synchronizationBytes, lastWidth, timingsBytes, templateSize, templateBytes, hoppingBytes, linkBytes, linksBytes, slotframeBytes, groupSize, groupBytes, flag, joiningWord, joiningSize, joiningBytes, frameOf, frameLength}
+use Rattle.eb_write_spec.specs.Frame.{macHeaderBytes, sequenceBytes, addressBytes, headerDescriptor, groupDescriptor, shortDescriptor, longDescriptor, numbersIn, synchronizationBytes, lastWidth, timingsBytes, templateSize, templateBytes, hoppingBytes, linkBytes, linksBytes, slotframeBytes, groupSize, groupBytes, flag, joiningWord, joiningSize, joiningBytes, frameOf, frameLength}
 use Rattle.eb_write_spec.specs.Limits.{slotframeFits, presentFits, absentFits, joiningFits, fits}
 
 -- ---- a test that a row of `&&` stands on: were it off, so would be the row
@@ -140,7 +140,7 @@ pub joining-on : (b : Beacon) → fits b ≡ true → joiningFits (b .joining) �
 unfolding fits
 joining-on b within = on (joiningFits (b .joining)) (λ h. simp (h, and-false) at within)
 
-pub length-mac-header : (q : SequenceNumber) (pan : ℕ) (a : Address) → length (macHeaderBytes q pan a) ≡ 6 + length (sequenceBytes q) + length (sourceBytes a)
+pub length-mac-header : (q : SequenceNumber) (pan : ℕ) (a : Address) → length (macHeaderBytes q pan a) ≡ 6 + length (sequenceBytes q) + length (addressBytes a)
 unfolding macHeaderBytes
 length-mac-header q pan a = simp (length-append, length-le) (omega arith)
 

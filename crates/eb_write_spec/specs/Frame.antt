@@ -64,23 +64,23 @@ unfoldable pub sequenceBytes : SequenceNumber → List ℕ
 sequenceBytes Absent = []
 sequenceBytes (Number number) = leBytes 1 number
 
--- the source's addressing mode: 2 short, 3 extended
-unfoldable pub sourceMode : Address → ℕ
-sourceMode (Short number) = 2
-sourceMode (Extended number) = 3
+-- the addressing mode of an address: 2 short, 3 extended
+unfoldable pub addressMode : Address → ℕ
+addressMode (Short number) = 2
+addressMode (Extended number) = 3
 
--- the source's bytes
-unfoldable pub sourceBytes : Address → List ℕ
-sourceBytes (Short number) = leBytes 2 number
-sourceBytes (Extended number) = leBytes 8 number
+-- its bytes
+unfoldable pub addressBytes : Address → List ℕ
+addressBytes (Short number) = leBytes 2 number
+addressBytes (Extended number) = leBytes 8 number
 
 -- frame control: type 0, PAN ID compression, elements present, destination short, version 2; all that is ignored on reading is 0
 unfoldable pub controlWord : SequenceNumber → Address → ℕ
-controlWord sequence source = 2 ^ 6 + suppressedBit sequence * 2 ^ 8 + 2 ^ 9 + 2 * 2 ^ 10 + 2 * 2 ^ 12 + sourceMode source * 2 ^ 14
+controlWord sequence source = 2 ^ 6 + suppressedBit sequence * 2 ^ 8 + 2 ^ 9 + 2 * 2 ^ 10 + 2 * 2 ^ 12 + addressMode source * 2 ^ 14
 
 -- frame control and the fixed fields: sequence number, destination PAN, destination FF FF, source
 unfoldable pub macHeaderBytes : SequenceNumber → ℕ → Address → List ℕ
-macHeaderBytes sequence pan source = leBytes 2 (controlWord sequence source) ++ (sequenceBytes sequence ++ (leBytes 2 pan ++ (leBytes 2 broadcast ++ sourceBytes source)))
+macHeaderBytes sequence pan source = leBytes 2 (controlWord sequence source) ++ (sequenceBytes sequence ++ (leBytes 2 pan ++ (leBytes 2 broadcast ++ addressBytes source)))
 
 -- those of a record
 abbrev pub beaconMacHeader : Beacon → List ℕ
@@ -194,5 +194,5 @@ frameOf beacon = beaconMacHeader beacon ++ (headerDescriptor headerTermination1 
 -- its length as a formula of the record
 unfoldable pub frameLength : Beacon → ℕ
 frameLength beacon =
-    8 + length (sequenceBytes (beacon .sequence)) + length (sourceBytes (beacon .source))
+    8 + length (sequenceBytes (beacon .sequence)) + length (addressBytes (beacon .source))
     + (2 + beaconGroupSize beacon) + ifOn (beacon .joining .present) (2 + joiningSize (beacon .joining)) 0

@@ -14,7 +14,7 @@ use Rattle.eb_record_spec.specs.declared.Link.{Link}
 use Rattle.eb_record_spec.specs.declared.Slotframe.{Slotframe}
 use Rattle.eb_record_spec.specs.declared.JoiningInformation.{JoiningInformation}
 use Rattle.eb_record_spec.specs.declared.Beacon.{Beacon}
-use Rattle.eb_record_spec.specs.Form.{sourceFits}
+use Rattle.eb_record_spec.specs.Form.{addressFits}
 
 -- a test holds of every entry of a list
 unfoldable pub allOf : {A : Type 0} → (A → Bool) → List A → Bool
@@ -60,15 +60,15 @@ slotframeFits slotframe =
     && allOf linkUnused (drop (slotframe .count) (slotframe .links)))))))
 
 -- the address is unused if P is not set
-unfoldable pub addressFits : JoiningInformation → Bool
-addressFits joining = ifOn (joining .proxied) (ltb (joining .address) (2 ^ 64)) (eqb (joining .address) 0)
+unfoldable pub proxyFits : JoiningInformation → Bool
+proxyFits joining = ifOn (joining .proxied) (ltb (joining .address) (2 ^ 64)) (eqb (joining .address) 0)
 
 -- proxy priority 7 bits, rank priority 12, PAN priority 8, a network ID of 0 to 16 bytes, and the bytes behind it unused
 unfoldable pub presentFits : JoiningInformation → Bool
 presentFits joining =
     ltb (joining .proxy) 128
     && (ltb (joining .rank) 4096 && (ltb (joining .pan) 256
-    && (addressFits joining
+    && (proxyFits joining
     && (ltb (joining .length) 17
     && (allBelow 256 (take (joining .length) (joining .network))
     && allBelow 1 (drop (joining .length) (joining .network)))))))
@@ -89,7 +89,7 @@ unfoldable pub fits : Beacon → Bool
 fits beacon =
     sequenceFits (beacon .sequence)
     && (ltb (beacon .pan) (2 ^ 16)
-    && (sourceFits (beacon .source)
+    && (addressFits (beacon .source)
     && (synchronizationFits (beacon .synchronization)
     && (templateFits (beacon .timeslot)
     && (ltb (beacon .hopping) 256

@@ -13,8 +13,8 @@ mul-result c = search needs
 add-result : tie.Need-add-result
 add-result c = search needs
 
-source-mode-requires : tie.Need-source-mode-requires
-source-mode-requires c κs = search needs
+address-mode-requires : tie.Need-address-mode-requires
+address-mode-requires c κs = search needs
 
 mul-result-2 : tie.Need-mul-result-2
 mul-result-2 c = search needs
@@ -23,9 +23,9 @@ add-result-2 : tie.Need-add-result-2
 add-result-2 c = search needs
 
 returns : tie.Need-returns
-returns c = (control-is _ _ _ _ (c .before .suppressed-bit .ensures .0) (c .source-mode .ensures .0), search needs)
+returns c = (control-is _ _ _ _ (c .before .suppressed-bit .ensures .0) (c .address-mode .ensures .0), search needs)
 
 pub control-word-spec : {M : Type 1} → statement M
 control-word-spec =
     tie.close
-    (tie.spec suppressed-bit-requires mul-result add-result source-mode-requires mul-result-2 add-result-2 returns)
+    (tie.spec suppressed-bit-requires mul-result add-result address-mode-requires mul-result-2 add-result-2 returns)

@@ -10,8 +10,8 @@ sequence-size-requires c κs = search needs
 add-at : tie.Need-add-at
 add-at c = search needs
 
-source-size-requires : tie.Need-source-size-requires
-source-size-requires c κs = search needs
+address-size-requires : tie.Need-address-size-requires
+address-size-requires c κs = search needs
 
 add-at-2 : tie.Need-add-at-2
 add-at-2 c = search needs
@@ -26,10 +26,10 @@ same-length : tie.Need-same-length
 same-length c = search needs
 
 returns : tie.Need-returns
-returns c = frame-put _ _ _ _ _ _ (c .before .before .before .before .before .before .before .before .before .sequence-size .ensures .0) (c .before .before .before .before .before .before .before .before .source-size .ensures .0) (c .before .before .before .before .before .before .put-mac-header .ensures) (c .before .before .put-elements .ensures)
+returns c = frame-put _ _ _ _ _ _ (c .before .before .before .before .before .before .before .before .before .sequence-size .ensures .0) (c .before .before .before .before .before .before .before .before .address-size .ensures .0) (c .before .before .before .before .before .before .put-mac-header .ensures) (c .before .before .put-elements .ensures)
 
 pub put-frame-spec : {M : Type 1} → statement M
 put-frame-spec =
     tie.close
-    (tie.spec sequence-size-requires add-at source-size-requires add-at-2 put-mac-header-requires
+    (tie.spec sequence-size-requires add-at address-size-requires add-at-2 put-mac-header-requires
     put-elements-requires same-length returns)

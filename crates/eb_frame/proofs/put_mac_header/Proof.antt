@@ -43,14 +43,14 @@ put-le-requires-2 c κs = search needs
 add-put-le-4 : tie.Need-add-put-le-4
 add-put-le-4 c = search needs
 
-source-size-requires : tie.Need-source-size-requires
-source-size-requires c κs = search needs
+address-size-requires : tie.Need-address-size-requires
+address-size-requires c κs = search needs
 
 cast-put-le-2 : tie.Need-cast-put-le-2
 cast-put-le-2 c = search needs
 
-source-number-requires : tie.Need-source-number-requires
-source-number-requires c κs = search needs
+address-number-requires : tie.Need-address-number-requires
+address-number-requires c κs = search needs
 
 put-le-requires-3 : tie.Need-put-le-requires-3
 put-le-requires-3 c κs = search needs
@@ -68,4 +68,4 @@ put-mac-header-spec =
     tie.close
     (tie.spec sequence-size-requires control-word-requires sequence-number-requires mul-first add-first cast-put-le
     add-put-le put-le-requires add-put-le-2 mul-put-le add-put-le-3 put-le-requires-2 add-put-le-4
-    source-size-requires cast-put-le-2 source-number-requires put-le-requires-3 same-length returns)
+    address-size-requires cast-put-le-2 address-number-requires put-le-requires-3 same-length returns)

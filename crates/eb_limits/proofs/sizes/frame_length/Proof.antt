@@ -11,8 +11,8 @@ sequence-size-requires c κs = search needs
 add-result : tie.Need-add-result
 add-result c = search needs
 
-source-size-requires : tie.Need-source-size-requires
-source-size-requires c κs = search needs
+address-size-requires : tie.Need-address-size-requires
+address-size-requires c κs = search needs
 
 add-result-2 : tie.Need-add-result-2
 add-result-2 c = search needs
@@ -30,10 +30,10 @@ add-result-4 : tie.Need-add-result-4
 add-result-4 c = search needs
 
 returns : tie.Need-returns
-returns c = length-says _ _ _ _ _ (c .before .before .before .sequence-size .ensures .0) (c .before .before .source-size .ensures .0) (c .before .group-size .ensures .0) (c .joining-part .ensures .0) (search needs) (search (needs, length-mapped)) (search needs)
+returns c = length-says _ _ _ _ _ (c .before .before .before .sequence-size .ensures .0) (c .before .before .address-size .ensures .0) (c .before .group-size .ensures .0) (c .joining-part .ensures .0) (search needs) (search (needs, length-mapped)) (search needs)
 
 pub frame-length-spec : {M : Type 1} → statement M
 frame-length-spec =
     tie.close
-    (tie.spec sequence-size-requires add-result source-size-requires add-result-2 group-size-requires add-result-3
+    (tie.spec sequence-size-requires add-result address-size-requires add-result-2 group-size-requires add-result-3
     joining-part-requires add-result-4 returns)

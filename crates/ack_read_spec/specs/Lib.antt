@@ -1,0 +1,4 @@
+pub mod Policy
+pub mod Read
+pub mod Claims
+pub mod Witnesses

@@ -1,0 +1,24 @@
+-- `eb_frame::address_number` meets its contract. Assumes nothing.
+use Rattle.eb_frame.proofs.MacHeaderLaws.{macHeaders}
+use borrow.Author.Needs.{needs}
+use Rattle.eb_frame.proofs.address_number.Statement.{statement}
+use Rattle.eb_frame.proofs.address_number.Tie as tie
+
+enum-known-address : tie.Need-enum-known-address
+enum-known-address c = search needs
+
+cast-result : tie.Need-cast-result
+cast-result c = search needs
+
+enum-known-address-2 : tie.Need-enum-known-address-2
+enum-known-address-2 c = search needs
+
+returns : tie.Need-returns
+returns c = search (needs, macHeaders)
+
+returns-2 : tie.Need-returns-2
+returns-2 c = search (needs, macHeaders)
+
+pub address-number-spec : {M : Type 1} → statement M
+address-number-spec =
+    tie.close (tie.spec enum-known-address cast-result enum-known-address-2 returns returns-2)
