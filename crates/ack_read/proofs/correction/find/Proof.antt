@@ -1,4 +1,5 @@
 -- `ack_read::correction::find` meets its contract. Assumes nothing.
+use Prim.Native.Nat.{_-_}
 use Rattle.ack_read_spec.proofs.FoundLaws.{FoundLeads, founds}
 use borrow.Author.Needs.{needs}
 use Rattle.ack_read.proofs.correction.find.Statement.{statement}
