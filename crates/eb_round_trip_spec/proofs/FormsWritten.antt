@@ -12,7 +12,7 @@ use Rattle.eb_record_spec.proofs.FormLaws.{forms-give-the-record, records-give-
 use Rattle.eb_write_spec.specs.declared.Written.{Written}
 use Rattle.eb_write_spec.specs.Frame.{frameOf}
 use Rattle.eb_write_spec.specs.Limits.{fits}
-use Rattle.eb_write_spec.specs.Write.{writtenNumber, writtenIn}
+use Rattle.eb_write_spec.specs.Write.{answerFor, writtenNumber, writtenIn}
 use Rattle.eb_write_spec.specs.Form.{formFits, formWritten}
 use Rattle.eb_write_spec.proofs.LengthLaws.{on}
 use Rattle.eb_write_spec.proofs.Claimed.{write-numbers, form-numbers, differ}
@@ -40,7 +40,7 @@ module _ (beacon : Beacon) (within : fits beacon ≡ true) where
   form-as-record buffer = sym (if-on _ _ (isBeacon (formOf beacon)) is-beacon (rw (forms-give-the-record beacon source-fits .1)))
 
   number-is : (buffer : ℕ) → formWritten (formOf beacon) buffer .number ≡ writtenNumber beacon buffer
-  unfolding writtenIn
+  unfolding answerFor
   number-is buffer = ap (λ (written : Written). written .number) (form-as-record buffer)
 
   not-8 : (buffer : ℕ) → formWritten (formOf beacon) buffer .number ≡ 8 → ⊥
@@ -50,13 +50,13 @@ module _ (beacon : Beacon) (within : fits beacon ≡ true) where
   not-1 short buffer e = omega (arith, write-numbers beacon buffer .1 .0 (sym (number-is buffer) ∙ e) .1)
 
   done-in : length (frameOf beacon) ≤ 125 → (buffer : ℕ) → length (frameOf beacon) ≤ buffer → formWritten (formOf beacon) buffer ≡ record { number = 0; length = length (frameOf beacon) }
-  unfolding writtenIn
+  unfolding answerFor
   done-in short buffer fits-in =
       let done = write-numbers beacon buffer .3 .1 (within, short, fits-in) in
       form-as-record buffer ∙ rw done (ap (λ (long : ℕ). record { number = 0; length = long }) (sym (if-eq (length (frameOf beacon)) 0 0 0 refl refl)))
 
   refused-in : length (frameOf beacon) ≤ 125 → (buffer : ℕ) → buffer < length (frameOf beacon) → formWritten (formOf beacon) buffer ≡ record { number = 9; length = 0 }
-  unfolding writtenIn
+  unfolding answerFor
   refused-in short buffer over =
       let number = write-numbers beacon buffer .2 .1 (within, short, over) in
       form-as-record buffer ∙ rw number (ap (λ (n : ℕ). record { number = 9; length = n }) (sym (if-ne (length (frameOf beacon)) 0 9 0 (λ (e : 9 ≡ 0). omega arith) refl)))

@@ -1,5 +1,6 @@
 pub mod LengthLaws
 pub mod RangeLaws
 pub mod RowLaws
+pub mod WrittenLaws
 pub mod Claimed
 pub mod FormLaws

@@ -1,5 +1,6 @@
 -- `eb_round_trip::write_and_read` meets its contract. Assumes nothing.
-use Rattle.eb_round_trip_spec.proofs.RoundTripLaws.{back-refused, back-fits, back-part, back-read}
+use Rattle.eb_write_spec.proofs.WrittenLaws.{back-fits, back-part}
+use Rattle.eb_round_trip_spec.proofs.RoundTripLaws.{back-refused, back-read}
 use borrow.Author.Needs.{needs}
 use Rattle.eb_round_trip.proofs.write_and_read.Statement.{statement}
 use Rattle.eb_round_trip.proofs.write_and_read.Tie as tie
@@ -22,12 +23,12 @@ returns c =
 slice-reshare-prefix-read : tie.Need-slice-reshare-prefix-read
 slice-reshare-prefix-read c =
     let written = c .before .before .before .before .write .ensures in
-    back-fits _ _ _ (written .0) (search needs) _ (written .1 .0)
+    back-fits _ _ _ _ (written .0) (search needs) _ (written .1 .0)
 
 slice-aggregate-read : tie.Need-slice-aggregate-read
 slice-aggregate-read c =
     let written = c .before .before .before .before .before .write .ensures in
-    back-part _ _ _ (written .0) (search needs) _ (written .1 .0)
+    back-part _ _ _ _ (written .0) (search needs) _ (written .1 .0)
 
 read-requires : tie.Need-read-requires
 read-requires c κs = search needs
@@ -39,7 +40,7 @@ returns-2 : tie.Need-returns-2
 returns-2 c =
     let a = c .before .before .before .before .before .before .before .before .before .args in
     let written = c .before .before .before .before .before .before .write .ensures in
-    (back-read (a .beacon) (a .buffer .now) _ (written .0) (search needs) _ (written .1 .0) (written .1 .1 .1) _ (search needs), written .1 .0)
+    (back-read (a .beacon) (a .buffer .now) _ (written .0) (search needs) _ (written .1 .1 .1) _ (search needs), written .1 .0)
 
 pub write-and-read-spec : {M : Type 1} → statement M
 write-and-read-spec =

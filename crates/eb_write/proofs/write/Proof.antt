@@ -1,5 +1,6 @@
 -- `eb_write::write` meets its contract. Assumes nothing.
-use Rattle.eb_write.proofs.WriteLaws.{answers, promises}
+use Rattle.eb_write_spec.proofs.WrittenLaws.{answers}
+use Rattle.eb_write.proofs.WriteLaws.{promises}
 use borrow.Author.Needs.{needs}
 use Rattle.eb_write.proofs.write.Statement.{statement}
 use Rattle.eb_write.proofs.write.Tie as tie
