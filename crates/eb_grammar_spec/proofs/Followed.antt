@@ -35,10 +35,21 @@ within u a c d v w some some-more e = inside v ∙ (ap (λ (n : ℕ). n / a % c)
 two-bytes : (low x : ℕ) → low < 256 → ((low + 256 * x) / 1 % 16 ≡ low / 1 % 16) × ((low + 256 * x) / 1 % 256 ≡ low / 1 % 256) × ((low + 256 * x) / 256 ≡ x)
 two-bytes low x small = (omega arith, omega arith, omega arith)
 
+-- two words of frame control with the same parts, but for those that are ignored
+pub record SameParts (v w : ℕ) : Type 0 where
+  pub type : bits 0 3 v ≡ bits 0 3 w
+  pub security : bits 3 1 v ≡ bits 3 1 w
+  pub compression : bits 6 1 v ≡ bits 6 1 w
+  pub suppression : bits 8 1 v ≡ bits 8 1 w
+  pub elements : bits 9 1 v ≡ bits 9 1 w
+  pub destination : bits 10 2 v ≡ bits 10 2 w
+  pub version : bits 12 2 v ≡ bits 12 2 w
+  pub source : bits 14 2 v ≡ bits 14 2 w
+
 module _ (low other : ℕ) (small : low < 256) (small′ : other < 256) (four : bits 0 4 low ≡ bits 0 4 other) (six : bits 6 1 low ≡ bits 6 1 other) (high : ℕ) where
-  other-bits : (suppression mode : ℕ) → FrameControl (le (low ∷ high ∷ [])) suppression mode → FrameControl (le (other ∷ high ∷ [])) suppression mode
+  pub same-parts : SameParts (le (other ∷ high ∷ [])) (le (low ∷ high ∷ []))
   unfolding le
-  other-bits suppression mode c =
+  same-parts =
       let x : ℕ = high + 256 * 0 in
       let v : ℕ = other + 256 * x in
       let w : ℕ = low + 256 * x in
@@ -47,15 +58,27 @@ module _ (low other : ℕ) (small : low < 256) (small′ : other < 256) (four : 
       let below : v / 1 % 16 ≡ w / 1 % 16 = new .0 ∙ (sym four ∙ sym (old .0)) in
       let above : v / 256 % 256 ≡ w / 256 % 256 = rw (new .2, old .2) in
       record {
-        type = within 1 1 8 2 v w tt tt below ∙ c .type;
-        security = within 1 8 2 1 v w tt tt below ∙ c .security;
-        compression = within 1 64 2 2 v other tt tt (new .1) ∙ (sym six ∙ (within 1 64 2 2 low w tt tt (sym (old .1)) ∙ c .compression));
-        suppression = within 256 1 2 128 v w tt tt above ∙ c .suppression;
-        elements = within 256 2 2 64 v w tt tt above ∙ c .elements;
-        destination = within 256 4 4 16 v w tt tt above ∙ c .destination;
-        version = within 256 16 4 4 v w tt tt above ∙ c .version;
-        source = within 256 64 4 1 v w tt tt above ∙ c .source;
+        type = within 1 1 8 2 v w tt tt below;
+        security = within 1 8 2 1 v w tt tt below;
+        compression = within 1 64 2 2 v other tt tt (new .1) ∙ (sym six ∙ within 1 64 2 2 low w tt tt (sym (old .1)));
+        suppression = within 256 1 2 128 v w tt tt above;
+        elements = within 256 2 2 64 v w tt tt above;
+        destination = within 256 4 4 16 v w tt tt above;
+        version = within 256 16 4 4 v w tt tt above;
+        source = within 256 64 4 1 v w tt tt above;
       }
+
+  other-bits : (suppression mode : ℕ) → FrameControl (le (low ∷ high ∷ [])) suppression mode → FrameControl (le (other ∷ high ∷ [])) suppression mode
+  other-bits suppression mode c = record {
+    type = same-parts .type ∙ c .type;
+    security = same-parts .security ∙ c .security;
+    compression = same-parts .compression ∙ c .compression;
+    suppression = same-parts .suppression ∙ c .suppression;
+    elements = same-parts .elements ∙ c .elements;
+    destination = same-parts .destination ∙ c .destination;
+    version = same-parts .version ∙ c .version;
+    source = same-parts .source ∙ c .source;
+  }
 
   other-fields : (rest xs fields : List ℕ) (n : SequenceNumber) (p : ℕ) (s : Address) → FixedFields fields n p s → low ∷ high ∷ rest ≡ fields ++ xs → (changed : List ℕ) × FixedFields changed n p s × (other ∷ high ∷ rest ≡ changed ++ xs)
   other-fields rest xs _ _ _ _ (fixed-fields l h p q {suppression} {mode} {sequence} {source} c q-says s-says) e =

@@ -51,26 +51,16 @@ pub record Reads (s : List ℕ) (sequence : SequenceNumber) (pan : ℕ) (source 
   pub place-is : place ≡ macHeaderOf s .elements
   pub end-is : length s ≡ macHeaderOf s .end
 
-abbrev numberAt : List ℕ → ℕ → SequenceNumber
+abbrev pub numberAt : List ℕ → ℕ → SequenceNumber
 numberAt s suppression = ifEq suppression 0 (Number (ifEq suppression 0 (getD s 2 0) 0)) Absent
 
 -- k bytes of a sequence number, by the bit that says whether it is suppressed, and m bytes of a source, by its mode
 module _ (s : List ℕ) (suppression mode k m : ℕ) (k-is : 2 + k ≡ ifEq suppression 0 3 2) (m-is : m ≡ addressLength mode) (c : FrameControl (leAt 2 s 0) suppression mode) where
   abbrev header : MacHeader
-  header = record {
-    control = form suppression mode;
-    sequence = ifEq suppression 0 (getD s 2 0) 0;
-    pan = leAt 2 s (2 + k);
-    destination = leAt 2 s (2 + k + 2);
-    source = leAt m s (2 + k + 2 + 2);
-    elements = 2 + k + 2 + 2 + m;
-    end = length s;
-  }
+  header = control-laws.placed s (form suppression mode) (control-is _ suppression mode c) k 2 m k-is (sym two-wide) m-is
 
   header-is : header ≡ macHeaderOf s
-  header-is =
-      control-laws.fields s (leAt 2 s 0) (form suppression mode) _ refl (control-is _ suppression mode c) (control-laws.offsets (form suppression mode) (length s) (2 + k) 2 m k-is (sym two-wide) m-is) (getD s 2 0)
-      (ifEq suppression 0 (getD s 2 0) 0) (leAt 2 s (2 + k)) (leAt 2 s (2 + k + 2)) (leAt m s (2 + k + 2 + 2)) refl refl refl (ap (λ (width : ℕ). leAt width s (2 + k + 2)) (sym two-wide)) (ap (λ (width : ℕ). leAt width s (2 + k + 2 + 2)) m-is)
+  header-is = control-laws.placed-is s (form suppression mode) (control-is _ suppression mode c) k 2 m k-is (sym two-wide) m-is
 
   passes : length s ≤ 125 → 2 ≤ mode → 2 + k + 2 + 2 + m ≤ length s → leAt 2 s (2 + k + 2) ≡ 65535 → 0 ≡ macHeaderFault s
   unfolding macHeaderFault formFault ifEq
@@ -99,22 +89,22 @@ pub record Opens (s : List ℕ) (sequence : SequenceNumber) (pan : ℕ) (source 
   pub ends : place + length elements ≡ length s
 
 module _ (s : List ℕ) where
-  sequence-reads : (suppression : ℕ) (xs : List ℕ) (n : SequenceNumber) → SequenceBytes suppression xs n → (2 + length xs ≡ ifEq suppression 0 3 2) × (Stands s 2 xs → n ≡ numberAt s suppression)
+  pub sequence-reads : (suppression : ℕ) (xs : List ℕ) (n : SequenceNumber) → SequenceBytes suppression xs n → (2 + length xs ≡ ifEq suppression 0 3 2) × (Stands s 2 xs → n ≡ numberAt s suppression)
   unfolding Stands ifEq
   sequence-reads _ _ _ (numbered n) = (refl, λ h. ap Number (sym (h .0)))
   sequence-reads _ _ _ suppressed = (refl, λ h. refl)
 
-  source-reads : (mode : ℕ) (xs : List ℕ) (a : Address) → AddressBytes mode xs a → (2 ≤ mode) × (length xs ≡ addressLength mode) × ((at : ℕ) → Stands s at xs → a ≡ addressOf mode (leAt (length xs) s at))
+  pub address-reads : (mode : ℕ) (xs : List ℕ) (a : Address) → AddressBytes mode xs a → (2 ≤ mode) × (length xs ≡ addressLength mode) × ((at : ℕ) → Stands s at xs → a ≡ addressOf mode (leAt (length xs) s at))
   unfolding addressLength addressOf ifEq
-  source-reads _ _ _ (short-address xs two) = (omega arith, two, λ at h. ap Short (le-stands s at xs h))
-  source-reads _ _ _ (extended-address xs eight) = (omega arith, eight, λ at h. ap Extended (le-stands s at xs h))
+  address-reads _ _ _ (short-address xs two) = (omega arith, two, λ at h. ap Short (le-stands s at xs h))
+  address-reads _ _ _ (extended-address xs eight) = (omega arith, eight, λ at h. ap Extended (le-stands s at xs h))
 
   pub opens-of : length s ≤ 125 → (fields elements : List ℕ) (n : SequenceNumber) (pan : ℕ) (address : Address) → FixedFields fields n pan address → s ≡ fields ++ elements → Opens s n pan address elements
   opens-of short _ elements _ _ _ (fixed-fields a b p q {suppression} {mode} {sequence} {source} {number} {address} control n-says address-says) e =
       let k : ℕ = length sequence in
       let m : ℕ = length source in
       let n = sequence-reads suppression sequence number n-says in
-      let from = source-reads mode source address address-says in
+      let from = address-reads mode source address address-says in
       let rest : List ℕ = 255 ∷ 255 ∷ (source ++ elements) in
       let is : s ≡ a ∷ b ∷ (sequence ++ (p ∷ q ∷ rest)) = e ∙ ap (λ (xs : List ℕ). a ∷ b ∷ xs) (append-assoc sequence (p ∷ q ∷ 255 ∷ 255 ∷ source) elements) in
       let whole = stands-whole s _ is in
@@ -142,7 +132,7 @@ pub record OpeningSays (s : List ℕ) : Type 0 where
   pub ends : length s ≡ macHeaderOf s .end
 
 module _ (s : List ℕ) (bytes : Bytes s) where
-  two-bytes : (at : ℕ) → le (getD s at 0 ∷ getD s (at + 1) 0 ∷ []) ≡ leAt 2 s at
+  pub two-bytes : (at : ℕ) → le (getD s at 0 ∷ getD s (at + 1) 0 ∷ []) ≡ leAt 2 s at
   unfolding le leAt
   two-bytes at = refl
 
@@ -159,15 +149,15 @@ module _ (s : List ℕ) (bytes : Bytes s) where
       ∙ (part-at s 0 0 (length s) (length s - 0) refl (omega arith)
       ∙ (part-element s 0 k (2 + k) (length s) refl (omega arith) ∙ rw (part-element s (2 + k) 0 (2 + k + 2) (length s) (omega arith) (omega arith), part-element s (2 + k + 2) m (2 + k + 2 + 2 + m) (length s) refl room)))
 
-  sequence-some : (suppression : ℕ) → suppression < 2 → (k : ℕ) × (2 + k ≡ ifEq suppression 0 3 2) × SequenceBytes suppression (part s 2 k) (numberAt s suppression)
+  pub sequence-some : (suppression : ℕ) → suppression < 2 → (k : ℕ) × (2 + k ≡ ifEq suppression 0 3 2) × SequenceBytes suppression (part s 2 k) (numberAt s suppression)
   unfolding part ifEq
   sequence-some zero small = (1, refl, numbered (getD s 2 0))
   sequence-some (suc zero) small = (0, refl, suppressed)
   sequence-some (suc (suc n)) small = absurd (omega arith)
 
-  source-some : (mode at : ℕ) → 2 ≤ mode → mode < 4 → AddressBytes mode (part s at (addressLength mode)) (addressOf mode (leAt (addressLength mode) s at))
+  pub address-some : (mode at : ℕ) → 2 ≤ mode → mode < 4 → AddressBytes mode (part s at (addressLength mode)) (addressOf mode (leAt (addressLength mode) s at))
   unfolding addressLength addressOf ifEq
-  source-some mode at two four =
+  address-some mode at two four =
       by-test (eqb mode 3)
       (λ t. rw (eqb-true mode 3 t) (rw (le-part s 8 at) at (extended-address (part s at 8) (length-part s at 8))))
       (λ t.
@@ -189,7 +179,7 @@ module _ (s : List ℕ) (bytes : Bytes s) where
         fields = getD s 0 0 ∷ getD s 1 0 ∷ (part s 2 k ++ pans);
         frame = rw (destination .0, destination .1, r .place-is) at (cut-up k m fits) ∙ sym (ap (λ (xs : List ℕ). getD s 0 0 ∷ getD s 1 0 ∷ xs) (append-assoc (part s 2 k) pans behind));
         says = rw (← r .sequence-is, ← r .pan-is, ← r .source-is)
-            (rw (two-bytes (2 + k)) at (fixed-fields (getD s 0 0) (getD s 1 0) (getD s (2 + k) 0) (getD s (2 + k + 1) 0) {suppression = suppression} {mode = mode} (rw (two-bytes 0) c) (number .2) (source-some mode (2 + k + 2 + 2) two four)));
+            (rw (two-bytes (2 + k)) at (fixed-fields (getD s 0 0) (getD s 1 0) (getD s (2 + k) 0) (getD s (2 + k + 1) 0) {suppression = suppression} {mode = mode} (rw (two-bytes 0) c) (number .2) (address-some mode (2 + k + 2 + 2) two four)));
         ends = r .end-is;
       }
 

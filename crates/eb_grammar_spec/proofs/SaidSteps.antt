@@ -6,7 +6,6 @@ use mathlib.Core.Logic.{_⊎_, inl, inr}
 use native.Mathlib.Omega.{arith}
 use lib.ListN.{getD}
 use Rattle.octets_spec.specs.Number.{leAt}
-use Rattle.octets_spec.proofs.ChoiceLaws.{either-eq}
 use Rattle.refusal.specs.Refusal.{cut, shape}
 use Rattle.ie_step_spec.specs.Header.{headerWord, headerAt}
 use Rattle.ie_step_spec.specs.Payload.{groupOf, outerWord, outerAt, innerWord, innerAt}
@@ -51,10 +50,10 @@ OuterSays (outer.Skip to) s at end = Lies s at end (at + 2) to (λ a b size. Ski
 OuterSays (outer.Fault number) s at end = number ≡ 0 → ⊥
 
 abbrev pub HeaderSays : HeaderStep → List ℕ → ℕ → ℕ → Type 0
-HeaderSays header.End s at end = Unit {0}
+HeaderSays header.End s at end = (end ≤ at) ⊎ ((at + 2 ≤ end) × Descriptor 7 (getD s at 0) (getD s (at + 1) 0) 0 127 0)
 HeaderSays (header.Payload from) s at end = (from ≡ at + 2) × (from ≤ end) × Descriptor 7 (getD s at 0) (getD s (at + 1) 0) 0 126 0
 HeaderSays (header.Element id from to) s at end = Lies s at end from to (λ a b size. Descriptor 7 a b size id 0 × (id ≡ 126 → ⊥) × (id ≡ 127 → ⊥))
-HeaderSays (header.Fault number) s at end = Unit {0}
+HeaderSays (header.Fault number) s at end = number ≡ 0 → ⊥
 
 was-cut : cut ≡ 0 → ⊥
 was-cut e = omega arith
@@ -127,11 +126,12 @@ module _ (s : List ℕ) (at : ℕ) (bytes : Bytes s) where
     header-says =
         let P : HeaderStep → Type 0 = λ o. HeaderSays o s at end in
         each-lt P _ _ _ _
-        (λ more. each-lt P _ _ _ _ (λ one. tt)
-        (λ two. each-lt P _ _ _ _ (λ over. tt)
-        (λ fits. each-eq P _ _ _ _ (λ one. tt)
+        (λ more. each-lt P _ _ _ _ (λ one. was-cut)
+        (λ two. each-lt P _ _ _ _ (λ over. was-cut)
+        (λ fits. each-eq P _ _ _ _ (λ one. was-shape)
         (λ zero. each-eq P _ _ _ _
-        (λ last. each-eq P _ _ _ _ (λ none. (refl, omega (arith, two), rw (none, last) at (header-word zero))) (λ some. tt))
-        (λ not-126. each-eq P _ _ _ _ (λ last. either-eq P _ _ tt tt _ _)
+        (λ last. each-eq P _ _ _ _ (λ none. (refl, omega (arith, two), rw (none, last) at (header-word zero))) (λ some. was-shape))
+        (λ not-126. each-eq P _ _ _ _
+        (λ last. each-eq P _ _ _ _ (λ none. inr (omega (arith, two), rw (none, last) at (header-word zero))) (λ some. was-shape))
         (λ not-127. record { size = w % 128; starts = refl; ends = refl; fits = omega (arith, two, fits); says = (header-word zero, not-126, not-127) }))))))
-        (λ none. tt)
+        (λ none. inl none)

@@ -69,3 +69,8 @@ module _ (s : List ℕ) (at end a b : ℕ) (rest : List ℕ) (h : Stands s at (a
   unfolding headerWord ifEq
   payload-step room d =
       header-here s at end 16128 (omega arith) (omega arith) (omega (arith, d .parts, read)) _ (if-ge _ _ (end - (at + 2)) 0 (omega arith) refl)
+
+  pub header-end-step : at + 2 ≤ end → Descriptor 7 a b 0 127 0 → header.End ≡ headerAt s at end
+  unfolding headerWord ifEq
+  header-end-step room d =
+      header-here s at end 16256 (omega arith) (omega arith) (omega (arith, d .parts, read)) _ (if-ge _ _ (end - (at + 2)) 0 (omega arith) refl)

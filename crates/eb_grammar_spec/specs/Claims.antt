@@ -29,18 +29,26 @@ RefusedSaysNothing =
     ((readFrame frame .number ≡ done → ⊥) → (beacon : Beacon) → Accepts frame beacon → ⊥) × (((beacon : Beacon) → Accepts frame beacon → ⊥) → readFrame frame .number ≡ done → ⊥)
 
 -- ---- the same of one call, whose lent slice holds bytes by its type
--- an answer is as the grammar says: done exactly with the record that the bytes say, and refused exactly when they say none
-pub record ReadAsSaid (frame : List ℕ) (number : ℕ) (beacon : Beacon) : Type 0 where
-  pub sound : number ≡ done → Accepts frame beacon
-  pub complete : (said : Beacon) → Accepts frame said → (number ≡ done) × (beacon ≡ said)
-  pub unambiguous : (one other : Beacon) → Accepts frame one → Accepts frame other → one ≡ other
-  pub refused-says-nothing : (number ≡ done → ⊥) → (said : Beacon) → Accepts frame said → ⊥
-  pub nothing-is-refused : ((said : Beacon) → Accepts frame said → ⊥) → number ≡ done → ⊥
+-- an answer is as a grammar says: done exactly with the record that the bytes say, and refused exactly when they say none
+pub record AnswerAsSaid {A : Type 0} (Says : A → Type 0) (number : ℕ) (answer : A) : Type 0 where
+  pub sound : number ≡ done → Says answer
+  pub complete : (said : A) → Says said → (number ≡ done) × (answer ≡ said)
+  pub unambiguous : (one other : A) → Says one → Says other → one ≡ other
+  pub refused-says-nothing : (number ≡ done → ⊥) → (said : A) → Says said → ⊥
+  pub nothing-is-refused : ((said : A) → Says said → ⊥) → number ≡ done → ⊥
 
 -- the same of an answer without enums: its record is the form of what the bytes say
-pub record FormReadAsSaid (frame : List ℕ) (number : ℕ) (form : BeaconForm) : Type 0 where
-  pub sound : number ≡ done → (said : Beacon) × Accepts frame said × (form ≡ formOf said)
-  pub complete : (said : Beacon) → Accepts frame said → (number ≡ done) × (form ≡ formOf said)
-  pub unambiguous : (one other : Beacon) → Accepts frame one → Accepts frame other → one ≡ other
-  pub refused-says-nothing : (number ≡ done → ⊥) → (said : Beacon) → Accepts frame said → ⊥
-  pub nothing-is-refused : ((said : Beacon) → Accepts frame said → ⊥) → number ≡ done → ⊥
+pub record FormAsSaid {A F : Type 0} (Says : A → Type 0) (toForm : A → F) (number : ℕ) (form : F) : Type 0 where
+  pub sound : number ≡ done → (said : A) × Says said × (form ≡ toForm said)
+  pub complete : (said : A) → Says said → (number ≡ done) × (form ≡ toForm said)
+  pub unambiguous : (one other : A) → Says one → Says other → one ≡ other
+  pub refused-says-nothing : (number ≡ done → ⊥) → (said : A) → Says said → ⊥
+  pub nothing-is-refused : ((said : A) → Says said → ⊥) → number ≡ done → ⊥
+
+-- of a beacon
+abbrev pub ReadAsSaid : List ℕ → ℕ → Beacon → Type 0
+ReadAsSaid frame number beacon = AnswerAsSaid (Accepts frame) number beacon
+
+-- and of its form
+abbrev pub FormReadAsSaid : List ℕ → ℕ → BeaconForm → Type 0
+FormReadAsSaid frame number form = FormAsSaid (Accepts frame) formOf number form

@@ -1,6 +1,6 @@
 -- The laws of the MAC header's fields, in the shape in which the code meets them. Assumes nothing.
 use Prim.Native.Nat.{ℕ, _+_, _<_, _/_, _%_}
-use mathlib.Core.Path.{_≡_, refl}
+use mathlib.Core.Path.{_≡_, refl, ap}
 use mathlib.Core.Bool.{Bool, true, false, cond}
 use mathlib.Core.List.{List}
 use native.Mathlib.Omega.{arith}
@@ -15,6 +15,7 @@ use Rattle.mac_header_spec.specs.Control.{controlOf}
 use Rattle.mac_header_spec.specs.Fields.{addressLength, offsetsOf, macHeaderOf}
 use Rattle.mac_header_spec.specs.declared.Control.{Control}
 use Rattle.mac_header_spec.specs.declared.FieldOffsets.{FieldOffsets}
+use Rattle.mac_header_spec.specs.declared.MacHeader.{MacHeader}
 
 pub controls : (word : ℕ) → record { kind = word % 8; security = word / 8 % 2; compression = word / 64 % 2; suppressed = word / 256 % 2; elements = word / 512 % 2; destination = word / 1024 % 4; version = word / 4096 % 4; source = word / 16384 % 4 } ≡ controlOf word
 unfolding controlOf
@@ -57,5 +58,23 @@ module _ (s : List ℕ) (word : ℕ) (control : Control) (found : FieldOffsets) 
       → record { control = control; sequence = sequence; pan = pan; destination = destination; source = source; elements = found .elements; end = found .end } ≡ macHeaderOf s
   unfolding macHeaderOf
   fields byte sequence pan destination source h i j k l = rw (i, h, j, k, l, g, f, e) refl
+
+-- the fields of a frame by the lengths of those that vary: k bytes of a sequence number, d of a destination, m of a source
+module _ (s : List ℕ) (control : Control) (is : control ≡ controlOf (leAt 2 s 0)) (k d m : ℕ) (k-is : 2 + k ≡ ifEq (control .suppressed) 0 3 2) (d-is : d ≡ addressLength (control .destination)) (m-is : m ≡ addressLength (control .source)) where
+  abbrev pub placed : MacHeader
+  placed = record {
+    control = control;
+    sequence = ifEq (control .suppressed) 0 (getD s 2 0) 0;
+    pan = leAt 2 s (2 + k);
+    destination = leAt d s (2 + k + 2);
+    source = leAt m s (2 + k + 2 + d);
+    elements = 2 + k + 2 + d + m;
+    end = length s;
+  }
+
+  pub placed-is : placed ≡ macHeaderOf s
+  placed-is =
+      fields s (leAt 2 s 0) control _ refl is (offsets control (length s) (2 + k) d m k-is d-is m-is) (getD s 2 0) (ifEq (control .suppressed) 0 (getD s 2 0) 0) (leAt 2 s (2 + k)) (leAt d s (2 + k + 2)) (leAt m s (2 + k + 2 + d)) refl
+      refl refl (ap (λ (width : ℕ). leAt width s (2 + k + 2)) d-is) (ap (λ (width : ℕ). leAt width s (2 + k + 2 + d)) m-is)
 
 pub ruleset controlling = (choices, controls, offsets, address-is, address-short, sequence-small, fields)

@@ -1,0 +1,5 @@
+pub mod Opened
+pub mod Lists
+pub mod Agreed
+pub mod Followed
+pub mod SaidLaws
