@@ -34,7 +34,7 @@ use Rattle.ack_grammar_spec.proofs.Lists.{Gives, list-sound, before, fo
 
 -- ---- the content of a correction
 -- bit 11 counts for -2048 exactly where the number from 2048 on is less 4096
-signed-is : (word : ℕ) → signed word ≡ correctionOf word
+pub signed-is : (word : ℕ) → signed word ≡ correctionOf word
 unfolding correctionOf
 signed-is word =
     by-lt (word % 4096) 2048

@@ -26,7 +26,7 @@ use Rattle.ack_read_spec.specs.declared.Found.{Found}
 use Rattle.ack_read_spec.proofs.FoundLaws.{element-other, element-first, FoundLeads, found-none, found-payload, found-correction, found-other}
 use Rattle.ack_grammar_spec.specs.Grammar.{elementsOf, ListEnd, bytes-end, termination-1, termination-2}
 
-no-more : {x : List ℕ} {xs : List (List ℕ)} → x ∷ xs ≡ [] → ⊥
+pub no-more : {x : List ℕ} {xs : List (List ℕ)} → x ∷ xs ≡ [] → ⊥
 no-more z = let longer : _≡_ {A = ℕ} (suc _) 0 = ap length z in omega (arith, longer)
 
 -- ---- one element more in front of a list
@@ -34,11 +34,11 @@ module _ (id : ℕ) (content : List ℕ) (found : List Element) where
   abbrev one : Element
   one = record { kind = id; content = content }
 
-  contents-is : id ≡ 30 → contents 30 (one ∷ found) ≡ content ∷ contents 30 found
+  pub contents-is : id ≡ 30 → contents 30 (one ∷ found) ≡ content ∷ contents 30 found
   unfolding contents
   contents-is e = sym (if-eq _ _ id 30 e refl)
 
-  contents-other : (id ≡ 30 → ⊥) → contents 30 (one ∷ found) ≡ contents 30 found
+  pub contents-other : (id ≡ 30 → ⊥) → contents 30 (one ∷ found) ≡ contents 30 found
   unfolding contents
   contents-other n = sym (if-ne _ _ id 30 n refl)
 

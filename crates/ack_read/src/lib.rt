@@ -4,6 +4,8 @@ ghost use mathlib.Core.Bool.{true};
 ghost use Rattle.octets_spec.specs.Number.{leAt};
 ghost use Rattle.mac_header_spec.specs.Fields.{macHeaderOf};
 ghost use Rattle.ack_record.specs.Record.{formOf, isAck};
+ghost use Rattle.ack_grammar_spec.specs.Claims.{ReadAsSaid, FormReadAsSaid};
+ghost use Rattle.ack_read_spec.specs.Claims.{NumbersTo7, OneIsTheLength, NeverABeaconToo};
 ghost use Rattle.ack_read_spec.specs.Read.{ackFrom, foundOf, readAck, formReading};
 pub use ack_read_spec::AckAnswer;
 use ack_read_spec::AckReading;
@@ -47,6 +49,7 @@ fn decode(s: &[u8], at: usize) -> AckForm
 pub fn read_form(s: &[u8]) -> AckReading
     ensures answer { λ r. ⌜ r ≡ formReading (readAck (now (s .entry))) ⌝ }
     ensures record { λ r. ⌜ isAck (r .ack) ≡ true ⌝ }
+    ensures as_said { λ r. ⌜ FormReadAsSaid (now (s .entry)) (r .number) (r .ack) ⌝ }
 {
     let fault = crate::policy::mac_header_fault(s);
     if fault != refusal::DONE {
@@ -69,9 +72,13 @@ pub fn read_form(s: &[u8]) -> AckReading
     }
 }
 
-// Reads a frame: its number and its record.
+// Reads a frame: the record that its bytes say by the grammar, or a refusal if they say none.
 pub fn read(s: &[u8]) -> AckAnswer
     ensures answer { λ r. ⌜ r ≡ readAck (now (s .entry)) ⌝ }
+    ensures numbers { λ _. ⌜ NumbersTo7 ⌝ }
+    ensures length { λ _. ⌜ OneIsTheLength ⌝ }
+    ensures beacon { λ _. ⌜ NeverABeaconToo ⌝ }
+    ensures as_said { λ r. ⌜ ReadAsSaid (now (s .entry)) (r .number) (r .ack) ⌝ }
 {
     let reading = read_form(s);
     AckAnswer {

@@ -5,6 +5,7 @@ ghost use Rattle.eb_write_spec.specs.Write.{answerFor, bufferFor};
 ghost use Rattle.ack_write_spec.specs.Frame.{frameOf};
 ghost use Rattle.ack_write_spec.specs.Limits.{isCorrection, fits};
 ghost use Rattle.ack_write_spec.specs.Claims.{WriteNumbers, NeverTooLong};
+ghost use Rattle.ack_round_trip_spec.specs.ReadBack.{WrittenAsSaid};
 use ack_record::Ack;
 use eb_write_spec::Written;
 
@@ -40,6 +41,7 @@ pub fn write(buffer: &mut [u8], ack: Ack) -> Written
     ensures buffer { λ _. ⌜ now (buffer .exit) ≡ bufferFor (fits ack) (frameOf ack) (now (buffer .entry)) ⌝ }
     ensures numbers { λ _. ⌜ WriteNumbers ⌝ }
     ensures length { λ _. ⌜ NeverTooLong ⌝ }
+    ensures as_said { λ r. ⌜ WrittenAsSaid (r .number) (r .length) (now (buffer .exit)) ack ⌝ }
 {
     if !within_limits(ack) {
         return Written {

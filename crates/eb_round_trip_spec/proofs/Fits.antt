@@ -29,15 +29,15 @@ use Rattle.eb_grammar_spec.proofs.Joined.{nothing}
 use Rattle.eb_round_trip_spec.proofs.AllBytes.{All, parts, first-byte, behind-byte, below-all, le-small, be-small, Bounded, row-bounded, bounded-take, row-entry, Each, weights, also, all-blank}
 
 -- ---- what stands before the elements
-sequence-fits : (k : ℕ) (xs : List ℕ) (n : SequenceNumber) → SequenceBytes k xs n → All xs → (sequenceFits n ≡ true) × (length xs ≡ length (sequenceBytes n))
+pub sequence-fits : (k : ℕ) (xs : List ℕ) (n : SequenceNumber) → SequenceBytes k xs n → All xs → (sequenceFits n ≡ true) × (length xs ≡ length (sequenceBytes n))
 unfolding sequenceFits sequenceBytes
 sequence-fits _ _ _ (numbered n) all = (lt-ltb _ _ (first-byte all), sym (length-le 1 n))
 sequence-fits _ _ _ suppressed all = (refl, refl)
 
-source-fits : (m : ℕ) (xs : List ℕ) (a : Address) → AddressBytes m xs a → All xs → (addressFits a ≡ true) × (length xs ≡ length (addressBytes a))
+pub address-fits : (m : ℕ) (xs : List ℕ) (a : Address) → AddressBytes m xs a → All xs → (addressFits a ≡ true) × (length xs ≡ length (addressBytes a))
 unfolding addressFits addressBytes
-source-fits _ _ _ (short-address xs e) all = (lt-ltb _ _ (rw e at (le-small xs all)), e ∙ sym (length-le 2 (le xs)))
-source-fits _ _ _ (extended-address xs e) all = (lt-ltb _ _ (rw e at (le-small xs all)), e ∙ sym (length-le 8 (le xs)))
+address-fits _ _ _ (short-address xs e) all = (lt-ltb _ _ (rw e at (le-small xs all)), e ∙ sym (length-le 2 (le xs)))
+address-fits _ _ _ (extended-address xs e) all = (lt-ltb _ _ (rw e at (le-small xs all)), e ∙ sym (length-le 8 (le xs)))
 
 pub record FieldsFit (size : ℕ) (n : SequenceNumber) (p : ℕ) (a : Address) : Type 0 where
   pub sequence : sequenceFits n ≡ true
@@ -50,7 +50,7 @@ fields-fit _ _ _ _ (fixed-fields l h p q {sequence} {source} c n-says a-says) al
     let cut = parts sequence (p ∷ q ∷ 255 ∷ 255 ∷ source) (behind-byte (behind-byte all)) in
     let pan = parts (p ∷ q ∷ []) (255 ∷ 255 ∷ source) (cut .1) in
     let n = sequence-fits _ _ _ n-says (cut .0) in
-    let a = source-fits _ _ _ a-says (behind-byte (behind-byte (pan .1))) in
+    let a = address-fits _ _ _ a-says (behind-byte (behind-byte (pan .1))) in
     record { sequence = n .0; pan = lt-ltb _ _ (le-small (p ∷ q ∷ []) (pan .0)); source = a .0; long = omega (arith, length-append sequence (p ∷ q ∷ 255 ∷ 255 ∷ source), n .1, a .1) }
 
 -- ---- timeslot: a timing of two bytes is written in two

@@ -35,7 +35,7 @@ use Rattle.eb_grammar_spec.specs.Grammar.{Descriptor, Element, contents, short-
 use Rattle.eb_grammar_spec.proofs.Joined.{joiningSaid}
 
 -- ---- numbers
-le-of : (width n : ℕ) → n < 256 ^ width → le (leBytes width n) ≡ n
+pub le-of : (width n : ℕ) → n < 256 ^ width → le (leBytes width n) ≡ n
 unfolding le leBytes
 le-of zero n fits = omega (arith, fits)
 le-of (suc width) n fits =
@@ -63,7 +63,7 @@ row-numbers width [] fits = last
 row-numbers width (n ∷ ns) fits = number-row width n (fits 0 (omega arith)) (row-numbers width ns (λ i l. fits (suc i) (omega arith)))
 
 -- ---- descriptors
-describes : (split size id top n : ℕ) → n ≡ size + 2 ^ split * id + 32768 * top → n < 65536 → size < 2 ^ split → id < 2 ^ (15 - split) → Descriptor split (n % 256) (n / 256 % 256) size id top
+pub describes : (split size id top n : ℕ) → n ≡ size + 2 ^ split * id + 32768 * top → n < 65536 → size < 2 ^ split → id < 2 ^ (15 - split) → Descriptor split (n % 256) (n / 256 % 256) size id top
 unfolding leBytes
 describes split size id top n e small fits id-fits = record { parts = le-of 2 n small ∙ e; length-fits = fits; id-fits = id-fits }
 
@@ -92,12 +92,12 @@ control (Number m) (Extended n) = record { type = refl; security = refl; compres
 byte : (n : ℕ) → n < 256 → n % 256 ≡ n
 byte n h = omega arith
 
-number : (q : SequenceNumber) → sequenceFits q ≡ true → SequenceBytes (suppressedBit q) (sequenceBytes q) q
+pub number : (q : SequenceNumber) → sequenceFits q ≡ true → SequenceBytes (suppressedBit q) (sequenceBytes q) q
 unfolding suppressedBit sequenceBytes leBytes sequenceFits
 number Absent fits = suppressed
 number (Number n) fits = rw (byte n (ltb-true n 256 fits)) (numbered n)
 
-address : (a : Address) → addressFits a ≡ true → AddressBytes (addressMode a) (addressBytes a) a
+pub address : (a : Address) → addressFits a ≡ true → AddressBytes (addressMode a) (addressBytes a) a
 unfolding addressMode addressBytes addressFits
 address (Short n) fits = rw (le-of 2 n (ltb-true _ _ fits)) at (short-address (leBytes 2 n) (length-le 2 n))
 address (Extended n) fits = rw (le-of 8 n (ltb-true _ _ fits)) at (extended-address (leBytes 8 n) (length-le 8 n))

@@ -36,7 +36,7 @@ all-on false xs ys a b = b refl
 low : (n : ℕ) → n % 256 < 256
 low n = omega arith
 
-all-le : (width n : ℕ) → All (leBytes width n)
+pub all-le : (width n : ℕ) → All (leBytes width n)
 unfolding leBytes
 all-le zero n = none
 all-le (suc width) n = more (low n) (all-le width (n / 256))
@@ -57,15 +57,15 @@ all-links [] = none
 all-links (l ∷ ls) = both (both (all-le 2 _) (both (all-le 2 _) (all-le 1 _))) (all-links ls)
 
 -- ---- the frame
-all-sequence : (q : SequenceNumber) → All (sequenceBytes q)
+pub all-sequence : (q : SequenceNumber) → All (sequenceBytes q)
 unfolding sequenceBytes
 all-sequence Absent = none
 all-sequence (Number n) = all-le 1 n
 
-all-source : (a : Address) → All (addressBytes a)
+pub all-address : (a : Address) → All (addressBytes a)
 unfolding addressBytes
-all-source (Short n) = all-le 2 n
-all-source (Extended n) = all-le 8 n
+all-address (Short n) = all-le 2 n
+all-address (Extended n) = all-le 8 n
 
 all-template : (t : TimeslotTemplate) → All (templateBytes t)
 unfolding templateBytes shortDescriptor timingsBytes
@@ -91,7 +91,7 @@ all-joining j e =
 frame-bytes : (b : Beacon) → fits b ≡ true → All (frameOf b)
 unfolding frameOf macHeaderBytes headerDescriptor groupBytes groupDescriptor synchronizationBytes shortDescriptor hoppingBytes longDescriptor
 frame-bytes b e =
-    both (both (all-le 2 _) (both (all-sequence _) (both (all-le 2 _) (both (all-le 2 _) (all-source _)))))
+    both (both (all-le 2 _) (both (all-sequence _) (both (all-le 2 _) (both (all-le 2 _) (all-address _)))))
     (both (all-le 2 _)
     (both (both (all-le 2 _) (both (both (all-le 2 _) (both (all-le 5 _) (all-le 1 _))) (both (all-template _) (both (both (all-le 2 _) (all-le 1 _)) (all-slotframe _)))))
     (all-joining (b .joining) (joining-on b e))))

@@ -1,0 +1,4 @@
+pub mod OfTheGrammar
+pub mod Fits
+pub mod ReadsBack
+pub mod RoundTripLaws
