@@ -9,7 +9,8 @@ use Rattle.eb_write_spec.specs.Write.{numberFor, answerFor, bufferFor}
 use Rattle.eb_write_spec.specs.declared.Written.{Written}
 use Rattle.eb_write_spec.proofs.WrittenLaws.{each-when, number-is, done-number, part-is}
 use Rattle.ack_record.specs.declared.Ack.{Ack}
-use Rattle.ack_record.specs.Record.{blankAck}
+use Rattle.ack_record.specs.declared.AckForm.{AckForm}
+use Rattle.ack_record.specs.Record.{blankAck, ackOf}
 use Rattle.ack_read_spec.specs.declared.AckAnswer.{AckAnswer}
 use Rattle.ack_write_spec.specs.Frame.{frameOf}
 use Rattle.ack_write_spec.specs.Limits.{fits}
@@ -28,6 +29,9 @@ written-as-said ack buffer after number size is stands = record {
 -- a refusal has left nothing
 pub refused-says-nothing : (ack : Ack) (after : List ℕ) → WrittenAsSaid 8 0 after ack
 refused-says-nothing ack after = record { says = λ z. absurd (omega (arith, z)) }
+
+pub form-as-said : (form : AckForm) (ack : Ack) (number size : ℕ) (after : List ℕ) → ack ≡ ackOf form → WrittenAsSaid number size after ack → WrittenAsSaid number size after (ackOf form)
+form-as-said form ack number size after e said = rw e at said
 
 module _ (ack : Ack) (buffer : List ℕ) (w : Written) (is : w ≡ answerFor (fits ack) (frameOf ack) (length buffer)) where
   pub back-refused : (blank : Ack) → blank ≡ blankAck → (w .number ≡ 0 → ⊥) → record { number = w .number; ack = blank } ≡ backFrom ack (length buffer)
