@@ -300,7 +300,7 @@ impl FrameCoverage {
     pub fn expect(&self, least: usize) {
         self.kinds.expect("frames", 1, &Kind::ALL.map(|kind| format!("{kind:?}")));
         self.numbers.expect("numbers", least, &[0, 1, 2, 3, 4, 5, 6, 7, 8].map(|number| number.to_string()));
-        let checks: Vec<String> = Check::ALL.iter().map(|check| format!("{check:?}")).collect();
+        let checks: Vec<String> = Check::OF_BEACONS.iter().map(|check| format!("{check:?}")).collect();
         self.checks.expect("checks", least, &checks);
         self.records.expect("records read", least, &record_names());
     }

@@ -2,7 +2,7 @@
 
 use crate::beacons::{insert, random_bytes, random_joining, random_link};
 use crate::frame::{
-    HEADER_TERMINATION_1, HEADER_TERMINATION_2, IETF, LONG_HOPPING, PAYLOAD_TERMINATION, SHORT_SLOTFRAME,
+    Address, HEADER_TERMINATION_1, HEADER_TERMINATION_2, IETF, LONG_HOPPING, PAYLOAD_TERMINATION, SHORT_SLOTFRAME,
     SHORT_SYNCHRONIZATION, SHORT_TIMESLOT,
 };
 use crate::parts::{joining_bytes, link_bytes, Content, Element, Form, Parts};
@@ -17,7 +17,7 @@ pub fn break_parts(random: &mut Random, parts: &mut Parts) {
             let place = random.pick(&[10, 12, 14]);
             parts.control = parts.control & !(0b11 << place) | (random.below(4) as u16) << place;
         }
-        7..9 => parts.destination = random.pick(&[0xFFFE, 0xFEFF, 0xFF00, 0x00FF, 0]),
+        7..9 => parts.destination = Address::Short(random.pick(&[0xFFFE, 0xFEFF, 0xFF00, 0x00FF, 0])),
         9..27 => break_header(random, parts),
         27..37 => break_payload(random, parts),
         37..60 => add_known(random, parts),

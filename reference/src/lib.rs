@@ -15,6 +15,7 @@ pub mod interface;
 #[cfg(feature = "library")]
 pub mod library;
 pub mod log;
+pub mod mac;
 pub mod measure;
 pub mod metric;
 pub mod parts;
