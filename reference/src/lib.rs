@@ -1,6 +1,8 @@
 //! Independent reference for the library's rules, written from the rules alone and for plainness, not speed.
 //! The differential tests put the same questions to it and to the static library and compare the answers.
 
+pub mod ack;
+pub mod ack_write;
 pub mod beacons;
 pub mod calls;
 pub mod convert;

@@ -148,7 +148,7 @@ checks! {
         SlotframeMissing: MISSING_OR_TWICE,
     }
     acks {
-        /// The time correction has not 2 bytes.
+        /// The time correction's length is not 2.
         CorrectionLength: SHAPE,
         CorrectionTwice: MISSING_OR_TWICE,
         CorrectionMissing: MISSING_OR_TWICE,

@@ -114,17 +114,17 @@ limits! {
     AbsentJoining: |record| record.joining.present || record.joining == Joining::default(),
 }
 
-/// Why a record is not written.
+/// Why a record is not written; a beacon's, if nothing else is said.
 #[derive(Clone, Copy, Debug, PartialEq, Eq)]
-pub enum Refusal {
+pub enum Refusal<M = Misfit, L = Limit> {
     /// Of a record in C's form only.
-    Misfit(Misfit),
-    Limit(Limit),
+    Misfit(M),
+    Limit(L),
     FrameTooLong,
     BufferTooShort,
 }
 
-impl Refusal {
+impl<M, L> Refusal<M, L> {
     /// The refusal number.
     pub fn number(self) -> u8 {
         match self {
