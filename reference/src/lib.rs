@@ -2,6 +2,7 @@
 //! The differential tests put the same questions to it and to the static library and compare the answers.
 
 pub mod ack;
+pub mod ack_worked;
 pub mod ack_write;
 pub mod beacons;
 pub mod calls;
