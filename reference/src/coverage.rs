@@ -348,6 +348,28 @@ fn record_names() -> Vec<String> {
     forms.map(String::from).into_iter().chain(links).chain(networks).collect()
 }
 
+/// How long a buffer is for a frame of this length, with the number that this gives.
+pub fn buffer_name(buffer: usize, length: usize) -> &'static str {
+    match buffer {
+        0 => "9, no byte",
+        _ if buffer + 1 == length => "9, a byte short",
+        _ if buffer < length => "9, some bytes short",
+        _ if buffer == length => "0, just long enough",
+        _ if buffer == length + 1 => "0, a byte left",
+        _ => "0, some bytes left",
+    }
+}
+
+/// The names that it gives.
+pub const BUFFER_NAMES: [&str; 6] = [
+    "9, no byte",
+    "9, a byte short",
+    "9, some bytes short",
+    "0, just long enough",
+    "0, a byte left",
+    "0, some bytes left",
+];
+
 /// What records that were to be written reached.
 #[derive(Clone, Debug, Default)]
 pub struct WriteCoverage {
@@ -398,17 +420,9 @@ impl WriteCoverage {
             Err(Refusal::FrameTooLong) => {
                 self.orders.add(if too_short { "1 for a buffer too short" } else { "1 for a buffer long enough" });
             }
-            Err(Refusal::BufferTooShort) => self.buffers.add(match (buffer, length - buffer) {
-                (0, _) => "9, no byte",
-                (_, 1) => "9, a byte short",
-                _ => "9, some bytes short",
-            }),
+            Err(Refusal::BufferTooShort) => self.buffers.add(buffer_name(buffer, length)),
             Ok(_) => {
-                self.buffers.add(match buffer - length {
-                    0 => "0, just long enough",
-                    1 => "0, a byte left",
-                    _ => "0, some bytes left",
-                });
+                self.buffers.add(buffer_name(buffer, length));
                 count_record(&mut self.records, length, &record.to_beacon().expect("it was written"));
             }
         }
@@ -458,18 +472,7 @@ impl WriteCoverage {
                 "1 for a buffer long enough",
             ],
         );
-        self.buffers.expect(
-            "buffers",
-            least,
-            &[
-                "9, no byte",
-                "9, a byte short",
-                "9, some bytes short",
-                "0, just long enough",
-                "0, a byte left",
-                "0, some bytes left",
-            ],
-        );
+        self.buffers.expect("buffers", least, &BUFFER_NAMES);
         self.records.expect("records written", least, &record_names());
         let met: BTreeSet<usize> = self.lengths.keys().copied().collect();
         let wanted: BTreeSet<usize> = Shape::all().iter().map(Shape::length).collect();

@@ -2,8 +2,12 @@
 //! The differential tests put the same questions to it and to the static library and compare the answers.
 
 pub mod ack;
+pub mod ack_coverage;
+pub mod ack_frames;
+pub mod ack_records;
 pub mod ack_worked;
 pub mod ack_write;
+pub mod acks;
 pub mod beacons;
 pub mod calls;
 pub mod convert;
@@ -15,6 +19,7 @@ pub mod frames;
 pub mod grammar;
 pub mod header;
 pub mod interface;
+pub mod lent;
 #[cfg(feature = "library")]
 pub mod library;
 pub mod log;

@@ -236,7 +236,7 @@ fn random_record(random: &mut Random) -> (Record, usize) {
 }
 
 /// The length of a buffer for a frame of this length: often just the frame's, or about it, or about the longest frame's.
-fn random_buffer(random: &mut Random, length: usize) -> usize {
+pub fn random_buffer(random: &mut Random, length: usize) -> usize {
     match random.below(12) {
         0 => 0,
         1 | 2 => length - 1,
