@@ -302,14 +302,25 @@ pub fn break_bytes(random: &mut Random, frame: &mut Vec<u8>, descriptors: &[usiz
     }
 }
 
+/// The frame with one damage: a bit flip, a cut or another length in a descriptor.
+pub fn damaged(random: &mut Random, frame: &[u8], descriptors: &[usize]) -> Vec<u8> {
+    let mut frame = frame.to_vec();
+    match random.below(3) {
+        0 => flip_bit(random, &mut frame),
+        1 => frame.truncate(random.below(frame.len() as u64) as usize),
+        _ => edit_length(random, &mut frame, descriptors),
+    }
+    frame
+}
+
 /// Inverts one bit of a frame that is not empty.
-pub fn flip_bit(random: &mut Random, frame: &mut [u8]) {
+fn flip_bit(random: &mut Random, frame: &mut [u8]) {
     let place = random.below(frame.len() as u64) as usize;
     frame[place] ^= 1 << random.below(8);
 }
 
 /// Changes the low bits of the length in one of the descriptors; there is at least one.
-pub fn edit_length(random: &mut Random, frame: &mut [u8], descriptors: &[usize]) {
+fn edit_length(random: &mut Random, frame: &mut [u8], descriptors: &[usize]) {
     let at = random.pick(descriptors);
     // The frame may have been cut before it.
     if let Some(byte) = frame.get_mut(at) {
