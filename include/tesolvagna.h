@@ -366,9 +366,9 @@ struct tesolvagna_ack_reading {
  *   2  It has fewer than 2 bytes.
  *   3  In the frame control field the type is not 2 or the version is not 2.
  *   4  The security bit is set.
- *   5  The destination mode or the source mode is neither short nor extended, PAN ID compression is 1 where both
- *      addresses are extended or 0 where one is short, or information elements present is 0. The pending, acknowledge
- *      request and reserved bits are ignored.
+ *   5  The destination mode or the source mode is neither short nor extended, PAN ID compression is not 1 (not 0 where
+ *      both addresses are extended), or information elements present is 0. The pending, acknowledge request and
+ *      reserved bits are ignored.
  *   2  The rest of the MAC header's fields is cut: sequence number (unless suppressed), PAN ID, destination, source. No
  *      address is refused for its value.
  * Then the header elements (bits 0 to 6 length, 7 to 14 ID), in the order of their bytes. An element, or its two

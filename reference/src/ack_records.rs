@@ -129,15 +129,11 @@ fn visit_bit_flips(random: &mut Random, visit: &mut Visit) {
 /// Changes a record so that it breaks a limit. Often it would be within the limits if the correction were cut to its low
 /// bits.
 fn break_limit(random: &mut Random, ack: &mut c::Ack, limit: Limit) {
-    let most = i32::MAX as u64;
-    let distance = match ack.correction {
-        correction @ 0.. => correction,
-        correction => !correction,
-    };
-    let outside = over(random, distance as u64, LARGEST_CORRECTION as u64, most) as i32;
+    // With all bits inverted a number is one less than its negative, so that -2048 is 2047.
+    let inside = if ack.correction < 0 { !ack.correction } else { ack.correction };
+    let outside = over(random, inside as u64, LARGEST_CORRECTION as u64, i32::MAX as u64) as i32;
     ack.correction = match limit {
         Limit::LargestCorrection => outside,
-        // All bits inverted: one less than its negative.
         Limit::LeastCorrection => !outside,
     };
 }

@@ -2,9 +2,11 @@
 //! library.
 
 use reference::ack::{self, Ack, Address, Check};
+use reference::ack_frames;
 use reference::ack_worked;
 use reference::ack_write::{frame_length, write, Limit, Misfit, Refusal};
 use reference::convert;
+use reference::coverage::Counts;
 use reference::frame;
 use reference::interface as c;
 use reference::worked;
@@ -222,4 +224,24 @@ fn records_in_the_form_of_c() {
     let short = c::Ack { destination: 65535, source: 65535, ..c::Ack::default() };
     let expected = Ack { destination: Address::Short(65535), source: Address::Short(65535), ..blank };
     assert_eq!(Ack::from_c(&short), Ok(expected));
+}
+
+/// Whatever reading accepts is within the limits, is written in no more bytes, and reads as the same again.
+#[test]
+fn what_is_read_can_be_written() {
+    let mut counts = Counts::default();
+    ack_frames::visit_all(&mut |kind, frame| {
+        let Ok(ack) = ack::read(frame) else {
+            return;
+        };
+        let mut buffer = vec![FILL; frame.len()];
+        let length = write(&ack, &mut buffer).unwrap_or_else(|refusal| panic!("{kind:?}, {refusal:?}: {frame:02X?}"));
+        assert_eq!(ack::read(&buffer[..length]), Ok(ack), "{kind:?}: {frame:02X?}");
+        counts.add(match (length == frame.len(), buffer == frame) {
+            (true, true) => "the same frame",
+            (true, false) => "another frame of the same length",
+            (false, _) => "a shorter frame",
+        });
+    });
+    counts.expect("written again", 1000, &["the same frame", "another frame of the same length", "a shorter frame"]);
 }
