@@ -10,6 +10,7 @@ pub fn frames() -> Vec<Worked<Ack>> {
         published_frames(),
         controls(),
         addresses(),
+        largest_fields(),
         cut_fields(),
         header_lists(),
         ends_of_the_list(),
@@ -187,6 +188,12 @@ fn addresses() -> Vec<Worked<Ack>> {
             &["42 EE", "5C  sequence number", EXTENDED_DESTINATION, EXTENDED_SOURCE, CORRECTION],
             Check::PanIdCompression,
         ),
+    ]
+}
+
+/// Addresses and other fields that are all ones: none is refused for its value.
+fn largest_fields() -> Vec<Worked<Ack>> {
+    vec![
         accepted(
             "destination FF FF",
             &["42 AB", "34 12 FF FF 07 00  addresses", CORRECTION],
