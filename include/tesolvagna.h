@@ -1,6 +1,7 @@
 /*
- * Tesolvagna: reads and writes Enhanced Beacons, decides what a node does in a slot, and keeps the table of neighbours
- * from which it chooses its parent (6TiSCH minimal configuration, RFC 8180, over IEEE 802.15.4-2015).
+ * Tesolvagna: reads and writes Enhanced Beacons and Enhanced Acknowledgements, decides what a node does in a slot, and
+ * keeps the table of neighbours from which it chooses its parent (6TiSCH minimal configuration, RFC 8180, over IEEE
+ * 802.15.4-2015).
  *
  * Link with libtesolvagna.a: x86-64 only, with the System V calling convention.
  *
@@ -21,9 +22,9 @@
 #include <stddef.h>
 #include <stdint.h>
 
-/* The version of this interface, also as one number: 0x020000 is 2.0.0. */
+/* The version of this interface, also as one number: 0x020100 is 2.1.0. */
 #define TESOLVAGNA_VERSION_MAJOR 2
-#define TESOLVAGNA_VERSION_MINOR 0
+#define TESOLVAGNA_VERSION_MINOR 1
 #define TESOLVAGNA_VERSION_PATCH 0
 #define TESOLVAGNA_VERSION \
     ((TESOLVAGNA_VERSION_MAJOR << 16) | (TESOLVAGNA_VERSION_MINOR << 8) | TESOLVAGNA_VERSION_PATCH)
@@ -40,11 +41,11 @@ enum tesolvagna_number {
     TESOLVAGNA_FRAME_TOO_LONG = 1,
     /* A field, an information element or its two descriptor bytes run past what encloses them. */
     TESOLVAGNA_CUT = 2,
-    /* The frame is no beacon: its type is not 0 or its version is not 2. */
+    /* The type is not that of what is read (a beacon's is 0, an acknowledgement's 2), or the version is not 2. */
     TESOLVAGNA_WRONG_TYPE = 3,
     /* The security bit is set. */
     TESOLVAGNA_SECURED = 4,
-    /* The addressing form, the destination or the presence of information elements is not the accepted one. */
+    /* The addressing form, a beacon's destination or the presence of information elements is not the accepted one. */
     TESOLVAGNA_ADDRESSING = 5,
     /* An information element has the wrong shape. */
     TESOLVAGNA_SHAPE = 6,
@@ -317,6 +318,96 @@ struct tesolvagna_written tesolvagna_beacon_write(uint8_t *buffer, size_t buffer
  * information, and if its network ID has no bytes. No number is given.
  */
 struct tesolvagna_span tesolvagna_beacon_network_id(const uint8_t *frame, size_t length);
+
+/*
+ * Acknowledgements
+ */
+
+/* What an Enhanced Acknowledgement says, in the order on air. In the blank record everything is 0. */
+struct tesolvagna_ack {
+    /* Whether there is a sequence number; 0 is one too. */
+    bool has_sequence_number;
+    /* The sequence number, 0 without one. */
+    uint8_t sequence_number;
+    /* The PAN ID. */
+    uint16_t pan_id;
+    /* Whether the destination is an extended address (64 bits) and not a short one (16 bits). */
+    bool destination_is_extended;
+    /* The destination address as a number; a short one is at most 65535. */
+    uint64_t destination;
+    /* Whether the source is an extended address. */
+    bool source_is_extended;
+    /* The source address as a number; a short one is at most 65535. */
+    uint64_t source;
+    /* The time correction in microseconds, -2048 to 2047. */
+    int32_t correction;
+    /* Whether it is a negative acknowledgement, by bit 15 of the time correction. */
+    bool not_acknowledged;
+};
+
+/* What reading a frame gives. */
+struct tesolvagna_ack_reading {
+    /* enum tesolvagna_number */
+    uint8_t number;
+    /* The frame's record; the blank record on a refusal. */
+    struct tesolvagna_ack ack;
+};
+
+/*
+ * Reads an Enhanced Acknowledgement as the radio hands it over, without MIC and FCS.
+ *
+ * frame, length   the received bytes; never written
+ *
+ * number 0        done: `ack` is the frame's record
+ * number 1 to 7   the first check that the frame fails: `ack` is the blank record, all 0
+ *
+ * The checks are made in this order. Numbers are least significant byte first.
+ *   1  The frame has more than 125 bytes.
+ *   2  It has fewer than 2 bytes.
+ *   3  In the frame control field the type is not 2 or the version is not 2.
+ *   4  The security bit is set.
+ *   5  The destination mode or the source mode is neither short nor extended, PAN ID compression is not 1 (not 0 where
+ *      both addresses are extended), or information elements present is 0. The pending, acknowledge request and
+ *      reserved bits are ignored.
+ *   2  The rest of the MAC header's fields is cut: sequence number (unless suppressed), PAN ID, destination, source. No
+ *      address is refused for its value.
+ * Then the header elements (bits 0 to 6 length, 7 to 14 ID), in the order of their bytes. An element, or its two
+ * descriptor bytes, that runs past the frame is 2 before anything else is said of it; then a set bit 15 is 6.
+ *   ID 0x7E or 0x7F ends the list, and what follows is ignored, payload elements too; either ID with a length is 6. The
+ *   end of the frame ends the list too.
+ *   ID 0x1E, the time correction: not 2 bytes is 6, a second one 7. Its bits 0 to 11 are the correction in two's
+ *   complement, 12 to 14 are ignored, and 15 is set in a negative acknowledgement.
+ *   Others are skipped.
+ *   7  The time correction is missing.
+ */
+struct tesolvagna_ack_reading tesolvagna_ack_read(const uint8_t *frame, size_t length);
+
+/*
+ * Writes a record's Enhanced Acknowledgement at the start of a buffer.
+ *
+ * buffer, buffer_length   where the frame goes
+ * ack                     the record
+ *
+ * number 0   done: the frame is the first `length` bytes of the buffer, whose later bytes are as they were
+ * number 8   a field of the record is outside its limits
+ * number 9   the buffer is shorter than the frame; one of just its length is enough
+ *
+ * The first of these that applies is given. On a refusal `length` is 0 and the buffer is as it was. No frame is too
+ * long: it has 12 to 25 bytes.
+ *
+ * Outside the limits are:
+ *   A short destination or source over 65535.
+ *   A correction below -2048 or over 2047.
+ *   Anything but 0 for a sequence number that is not there.
+ * A record that was read is within the limits, and takes no more bytes than its frame had. The blank record is within
+ * them too: it acknowledges, with the correction 0.
+ *
+ * The frame: frame control with type 2, version 2, PAN ID compression unless both addresses are extended, information
+ * elements present, and no other flag than that of a suppressed sequence number; sequence number if there is one; PAN
+ * ID; destination; source; header element 0x1E, with bits 12 to 14 of its content clear; no terminator.
+ * `tesolvagna_ack_read` gives the same record for it.
+ */
+struct tesolvagna_written tesolvagna_ack_write(uint8_t *buffer, size_t buffer_length, struct tesolvagna_ack ack);
 
 /*
  * The neighbour table
@@ -593,6 +684,8 @@ TESOLVAGNA_SIZE(beacon, 232);
 TESOLVAGNA_SIZE(reading, 240);
 TESOLVAGNA_SIZE(written, 16);
 TESOLVAGNA_SIZE(span, 16);
+TESOLVAGNA_SIZE(ack, 40);
+TESOLVAGNA_SIZE(ack_reading, 48);
 TESOLVAGNA_SIZE(neighbour, 16);
 TESOLVAGNA_SIZE(table, 528);
 TESOLVAGNA_SIZE(table_answer, 536);

@@ -2,7 +2,7 @@
 # Exchanges two fields of a struct, or two parameters of a function, that the compiler cannot tell apart, on a copy of the
 # Rust side (src/interface.rs, src/library.rs) and of the header: to the library that is the same as if it had them the other
 # way round. Each time a test in tests/values.rs must fail, and for fields a C program too. Prints a table of what failed
-# (docs/CLAIMS.md). Not part of the gate: some ten seconds for each of about sixty exchanges. Needs cc, cargo and the static
+# (docs/CLAIMS.md). Not part of the gate: some ten seconds for each of about seventy exchanges. Needs cc, cargo and the static
 # library, found as build.rs finds it.
 set -euo pipefail
 cd "$(dirname "$0")"
@@ -36,7 +36,7 @@ failing_tests() {
 # The C programs that fail.
 failing_programs() {
     local name
-    for name in header beacons; do
+    for name in header beacons acks; do
         cc -std=c99 -I "$work/copy/include" "c/$name.c" "$folder/libtesolvagna.a" -o "$work/$name" 2>"$work/log" \
             && "$work/$name" >"$work/log" 2>&1 || echo "\`$name.c\`"
     done | paste -sd, | sed 's/,/, /g'

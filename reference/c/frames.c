@@ -1,7 +1,8 @@
 /*
- * Reads frames from standard input and lets the library read each; to be run under valgrind. Each frame has a heap
- * block of exactly its size, so that valgrind sees every access beside it; the checksum takes in every field of the
- * answer, so that it sees one that is left unwritten. The exit status is 0 if all answers are as expected.
+ * Reads frames from standard input and lets the library read each, as a beacon and as an acknowledgement; to be run
+ * under valgrind. Each frame has a heap block of exactly its size, so that valgrind sees every access beside it; the
+ * checksum takes in every field of the answers, so that it sees one that is left unwritten. The exit status is 0 if all
+ * answers are as expected.
  *
  * With the argument `probe` it reads one byte behind a frame itself: valgrind must find that.
  */
@@ -41,7 +42,7 @@ static uint64_t add(uint64_t sum, uint64_t number)
     return (sum ^ number) * 0x100000001B3;
 }
 
-/* The same for a record, field by field. */
+/* The same for a beacon's record, field by field. */
 static uint64_t add_beacon(uint64_t sum, const struct tesolvagna_beacon *beacon)
 {
     int i;
@@ -79,22 +80,40 @@ static uint64_t add_beacon(uint64_t sum, const struct tesolvagna_beacon *beacon)
     return sum;
 }
 
-/* The checksum of the library's whole answer on the frame. */
+/* The same for an acknowledgement's. */
+static uint64_t add_ack(uint64_t sum, const struct tesolvagna_ack *ack)
+{
+    sum = add(sum, ack->has_sequence_number);
+    sum = add(sum, ack->sequence_number);
+    sum = add(sum, ack->pan_id);
+    sum = add(sum, ack->destination_is_extended);
+    sum = add(sum, ack->destination);
+    sum = add(sum, ack->source_is_extended);
+    sum = add(sum, ack->source);
+    sum = add(sum, (uint64_t)ack->correction);
+    sum = add(sum, ack->not_acknowledged);
+    return sum;
+}
+
+/* The checksum of the library's whole answers on the frame. */
 static uint64_t answer(const uint8_t *frame, size_t length)
 {
     const struct tesolvagna_reading reading = tesolvagna_beacon_read(frame, length);
     const struct tesolvagna_span network_id = tesolvagna_beacon_network_id(frame, length);
+    const struct tesolvagna_ack_reading ack = tesolvagna_ack_read(frame, length);
     uint64_t sum = 0xCBF29CE484222325;
 
     sum = add(sum, reading.number);
     sum = add_beacon(sum, &reading.beacon);
     sum = add(sum, network_id.offset);
     sum = add(sum, network_id.length);
+    sum = add(sum, ack.number);
+    sum = add_ack(sum, &ack.ack);
     return sum;
 }
 
-/* Whether the record of an accepted frame, written into a block of just enough bytes, reads as another one. */
-static bool differs_written(const uint8_t *frame, size_t length)
+/* Whether the record of an accepted beacon, written into a block of just enough bytes, reads as another one. */
+static bool beacon_differs(const uint8_t *frame, size_t length)
 {
     const struct tesolvagna_reading reading = tesolvagna_beacon_read(frame, length);
     struct tesolvagna_reading again;
@@ -116,13 +135,36 @@ static bool differs_written(const uint8_t *frame, size_t length)
     return differs;
 }
 
+/* The same for an accepted acknowledgement. */
+static bool ack_differs(const uint8_t *frame, size_t length)
+{
+    const struct tesolvagna_ack_reading reading = tesolvagna_ack_read(frame, length);
+    struct tesolvagna_ack_reading again;
+    struct tesolvagna_written written;
+    uint8_t longest[TESOLVAGNA_LONGEST_FRAME], *buffer;
+    bool differs;
+
+    if (reading.number != TESOLVAGNA_DONE)
+        return false;
+    written = tesolvagna_ack_write(longest, sizeof longest, reading.ack);
+    if (written.number != TESOLVAGNA_DONE || written.length > length)
+        return true;
+    buffer = block(written.length);
+    written = tesolvagna_ack_write(buffer, written.length, reading.ack);
+    again = tesolvagna_ack_read(buffer, written.length);
+    differs = written.number != TESOLVAGNA_DONE || again.number != TESOLVAGNA_DONE
+              || add_ack(0, &again.ack) != add_ack(0, &reading.ack);
+    free(buffer);
+    return differs;
+}
+
 int main(int count, char **arguments)
 {
     bool probe = count == 2 && strcmp(arguments[1], "probe") == 0;
     unsigned long frames = 0, wrong = 0;
     uint64_t length, expected;
 
-    /* A frame in the stream: the checksum of its answer (8 bytes), its length (4 bytes), its bytes. */
+    /* A frame in the stream: the checksum of its answers (8 bytes), its length (4 bytes), its bytes. */
     while (next_number(8, &expected) && next_number(4, &length)) {
         uint8_t *frame = block(length), *copy = block(length);
 
@@ -133,7 +175,8 @@ int main(int count, char **arguments)
         memcpy(copy, frame, length);
         if (probe && frame[length] == 0x55)
             frames += 1;
-        if (answer(frame, length) != expected || differs_written(frame, length) || memcmp(frame, copy, length) != 0)
+        if (answer(frame, length) != expected || beacon_differs(frame, length) || ack_differs(frame, length)
+            || memcmp(frame, copy, length) != 0)
             wrong += 1;
         frames += 1;
         free(frame);

@@ -81,6 +81,21 @@ int main(void)
     FIELD(span, offset, 0, 8);
     FIELD(span, length, 8, 8);
 
+    SIZE(ack, 40);
+    FIELD(ack, has_sequence_number, 0, 1);
+    FIELD(ack, sequence_number, 1, 1);
+    FIELD(ack, pan_id, 2, 2);
+    FIELD(ack, destination_is_extended, 4, 1);
+    FIELD(ack, destination, 8, 8);
+    FIELD(ack, source_is_extended, 16, 1);
+    FIELD(ack, source, 24, 8);
+    FIELD(ack, correction, 32, 4);
+    FIELD(ack, not_acknowledged, 36, 1);
+
+    SIZE(ack_reading, 48);
+    FIELD(ack_reading, number, 0, 1);
+    FIELD(ack_reading, ack, 8, 40);
+
     SIZE(neighbour, 16);
     FIELD(neighbour, id, 0, 8);
     FIELD(neighbour, rank, 8, 2);

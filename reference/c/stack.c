@@ -47,6 +47,7 @@ static const uint8_t *frame;
 static size_t frame_length;
 static uint8_t buffer[TESOLVAGNA_LONGEST_FRAME];
 static struct tesolvagna_beacon beacon;
+static struct tesolvagna_ack ack;
 static struct tesolvagna_table table;
 static uint64_t id;
 static const uint8_t *kinds, *flags;
@@ -57,6 +58,7 @@ static size_t rows;
 static struct tesolvagna_reading reading;
 static struct tesolvagna_written written;
 static struct tesolvagna_span span;
+static struct tesolvagna_ack_reading ack_reading;
 static struct tesolvagna_table_answer answer;
 static struct tesolvagna_evaluation evaluation;
 static struct tesolvagna_replay replay;
@@ -74,6 +76,8 @@ static uint32_t number;
 CALL(beacon_read, reading = tesolvagna_beacon_read(frame, frame_length))
 CALL(beacon_write, written = tesolvagna_beacon_write(buffer, sizeof buffer, beacon))
 CALL(beacon_network_id, span = tesolvagna_beacon_network_id(frame, frame_length))
+CALL(ack_read, ack_reading = tesolvagna_ack_read(frame, frame_length))
+CALL(ack_write, written = tesolvagna_ack_write(buffer, sizeof buffer, ack))
 CALL(table_init, table = tesolvagna_table_init())
 CALL(table_advertise, answer = tesolvagna_table_advertise(table, id, 300))
 CALL(table_report, answer = tesolvagna_table_report(table, id, 4, true))
@@ -121,6 +125,18 @@ static void fill_groups(void)
     for (at = 10; at < sizeof groups; at += 2)
         groups[at + 1] = 0x88;
 }
+
+/* An acknowledgement in the form in which they are written, as long as they come. */
+static const uint8_t house_ack[] = {
+    0x02, 0xEE, 0x5C, 0xCD, 0xAB,                   /* frame control, sequence number, PAN ID */
+    0x08, 0x07, 0x06, 0x05, 0x04, 0x03, 0x02, 0xF1, /* destination */
+    0x2A, 0x00, 0x00, 0xFE, 0xFF, 0x00, 0x00, 0x02, /* source */
+    0x02, 0x0F, 0x9C, 0x8F                          /* time correction */
+};
+
+/* A MAC header, a time correction and elements of no bytes, as many as a frame can have: they have ID 0. */
+static const uint8_t elements[TESOLVAGNA_LONGEST_FRAME - 1] = {0x42, 0xAB, 0x34, 0x12, 0x08, 0x00,
+                                                               0x07, 0x00, 0x02, 0x0F, 0x05, 0x00};
 
 /* The deepest of the calls of a row. */
 static size_t deepest;
@@ -187,6 +203,28 @@ static void beacons(void)
     beacon.slotframe.links[15].options = 256;
     make("options over 255", call_beacon_write, &written.number, TESOLVAGNA_OUT_OF_LIMITS);
     row("beacon_write", "", sizeof beacon, sizeof written);
+}
+
+static void acks(void)
+{
+    frame = house_ack;
+    frame_length = sizeof house_ack;
+    make("house form", call_ack_read, &ack_reading.number, TESOLVAGNA_DONE);
+    ack = ack_reading.ack;
+    frame_length = sizeof house_ack - 1;
+    make("cut", call_ack_read, &ack_reading.number, TESOLVAGNA_CUT);
+    frame_length = 0;
+    make("empty", call_ack_read, &ack_reading.number, TESOLVAGNA_CUT);
+    row("ack_read", ", frames as they are written", 0, sizeof ack_reading);
+    frame = elements;
+    frame_length = sizeof elements;
+    make("elements", call_ack_read, &ack_reading.number, TESOLVAGNA_DONE);
+    row("ack_read", ", 56 elements of no bytes", 0, sizeof ack_reading);
+
+    make("record", call_ack_write, &written.number, TESOLVAGNA_DONE);
+    ack.correction = 2048;
+    make("correction over 2047", call_ack_write, &written.number, TESOLVAGNA_OUT_OF_LIMITS);
+    row("ack_write", "", sizeof ack, sizeof written);
 }
 
 /* A full table with the first neighbour as parent; all are eligible. */
@@ -272,6 +310,7 @@ int main(void)
     printf("| Function | below the call | arguments on the stack | answer in memory | together |\n");
     printf("|---|---|---|---|---|\n");
     beacons();
+    acks();
     tables();
     numbers();
     free(stack);

@@ -183,7 +183,7 @@ pub fn any_form(random: &mut Random) -> Parts {
 }
 
 /// Takes the room for an element with a content: of a few bytes, none, or as many as there is room for.
-fn spend(random: &mut Random, room: &mut usize) -> Option<Vec<u8>> {
+pub fn spend(random: &mut Random, room: &mut usize) -> Option<Vec<u8>> {
     let most = room.checked_sub(2)?;
     let length = match random.below(10) {
         0 => most,
@@ -195,7 +195,7 @@ fn spend(random: &mut Random, room: &mut usize) -> Option<Vec<u8>> {
 }
 
 /// An ID up to `largest` that is none of the known ones; it is often one bit away from one of them.
-fn other_than(random: &mut Random, largest: u16, known: &[u16]) -> u16 {
+pub fn other_than(random: &mut Random, largest: u16, known: &[u16]) -> u16 {
     loop {
         let id = match random.below(3) {
             0 => random.pick(known) ^ 1 << random.below(8),

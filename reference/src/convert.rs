@@ -1,6 +1,8 @@
 //! Between the reference's own types and the structs of the C header, and the reference's answers in C's form: what the
 //! library should say.
 
+use crate::ack::{self, Ack};
+use crate::ack_write;
 use crate::frame::{self, Address, Beacon, Check};
 use crate::interface as c;
 use crate::interface::Numbers;
@@ -31,11 +33,29 @@ impl c::Reading {
     }
 }
 
-/// Whether a source is extended, and its number.
-fn source_of(source: Address) -> (bool, u64) {
-    match source {
+/// Whether an address is extended, and its number.
+fn address_of(address: Address) -> (bool, u64) {
+    match address {
         Address::Short(address) => (false, address.into()),
         Address::Extended(address) => (true, address),
+    }
+}
+
+/// The address that C's form holds; the misfit if it is a short one over 65535.
+fn address_from<M>(is_extended: bool, address: u64, misfit: M) -> Result<Address, M> {
+    match (is_extended, u16::try_from(address)) {
+        (true, _) => Ok(Address::Extended(address)),
+        (false, Ok(address)) => Ok(Address::Short(address)),
+        (false, Err(_)) => Err(misfit),
+    }
+}
+
+/// The sequence number that C's form holds; the misfit if it is not 0 where there is none.
+fn sequence_from<M>(is_there: bool, sequence: u8, misfit: M) -> Result<Option<u8>, M> {
+    match (is_there, sequence) {
+        (true, sequence) => Ok(Some(sequence)),
+        (false, 0) => Ok(None),
+        (false, _) => Err(misfit),
     }
 }
 
@@ -46,7 +66,7 @@ fn links_of(links: &[Link; MOST_LINKS]) -> [c::Link; MOST_LINKS] {
 impl c::Beacon {
     /// A beacon that was read.
     pub fn of(beacon: &Beacon) -> c::Beacon {
-        let (source_is_extended, source) = source_of(beacon.source);
+        let (source_is_extended, source) = address_of(beacon.source);
         c::Beacon {
             has_sequence_number: beacon.sequence.is_some(),
             sequence_number: beacon.sequence.unwrap_or(0),
@@ -86,7 +106,7 @@ impl c::Beacon {
     /// A record to be written, within the limits or not.
     pub fn of_record(record: &Record) -> c::Beacon {
         let joining = &record.joining;
-        let (source_is_extended, source) = source_of(record.source);
+        let (source_is_extended, source) = address_of(record.source);
         c::Beacon {
             has_sequence_number: record.sequence.is_some(),
             sequence_number: record.sequence.unwrap_or(0),
@@ -121,16 +141,8 @@ impl Record {
     /// The record that C's form holds, or why it holds none.
     pub fn from_c(beacon: &c::Beacon) -> Result<Record, Misfit> {
         let c::Beacon { synchronization, timeslot, slotframe, joining, .. } = beacon;
-        let sequence = match (beacon.has_sequence_number, beacon.sequence_number) {
-            (true, sequence) => Some(sequence),
-            (false, 0) => None,
-            (false, _) => return Err(Misfit::AbsentSequence),
-        };
-        let source = match (beacon.source_is_extended, u16::try_from(beacon.source)) {
-            (true, _) => Address::Extended(beacon.source),
-            (false, Ok(address)) => Address::Short(address),
-            (false, Err(_)) => return Err(Misfit::ShortSource),
-        };
+        let sequence = sequence_from(beacon.has_sequence_number, beacon.sequence_number, Misfit::AbsentSequence)?;
+        let source = address_from(beacon.source_is_extended, beacon.source, Misfit::ShortSource)?;
         let mut links = [Link::default(); MOST_LINKS];
         for (link, given) in links.iter_mut().zip(&slotframe.links) {
             let Ok(options) = u8::try_from(given.options) else {
@@ -173,12 +185,66 @@ pub fn write(beacon: &c::Beacon, buffer: &mut [u8]) -> Result<usize, Refusal> {
 }
 
 impl c::Written {
-    pub fn of(answer: &Result<usize, Refusal>) -> c::Written {
+    pub fn of<M: Copy, L: Copy>(answer: &Result<usize, Refusal<M, L>>) -> c::Written {
         match *answer {
             Ok(length) => c::Written { number: 0, length },
             Err(refusal) => c::Written { number: refusal.number(), length: 0 },
         }
     }
+}
+
+/// The reference's reading of an acknowledgement.
+pub fn read_ack(frame: &[u8]) -> c::AckReading {
+    c::AckReading::of(&ack::read(frame))
+}
+
+impl c::AckReading {
+    /// The reference's answer; a refusal has the blank record.
+    pub fn of(answer: &Result<Ack, Check>) -> c::AckReading {
+        match answer {
+            Ok(ack) => c::AckReading { number: 0, ack: c::Ack::of(ack) },
+            Err(check) => c::AckReading { number: check.number(), ack: c::Ack::default() },
+        }
+    }
+}
+
+impl c::Ack {
+    /// A record that was read or is to be written, within the limits or not.
+    pub fn of(ack: &Ack) -> c::Ack {
+        let (destination_is_extended, destination) = address_of(ack.destination);
+        let (source_is_extended, source) = address_of(ack.source);
+        c::Ack {
+            has_sequence_number: ack.sequence.is_some(),
+            sequence_number: ack.sequence.unwrap_or(0),
+            pan_id: ack.pan,
+            destination_is_extended,
+            destination,
+            source_is_extended,
+            source,
+            correction: ack.correction,
+            not_acknowledged: ack.not_acknowledged,
+        }
+    }
+}
+
+impl Ack {
+    /// The record that C's form holds, or why it holds none.
+    pub fn from_c(ack: &c::Ack) -> Result<Ack, ack_write::Misfit> {
+        use ack_write::Misfit;
+        Ok(Ack {
+            sequence: sequence_from(ack.has_sequence_number, ack.sequence_number, Misfit::AbsentSequence)?,
+            pan: ack.pan_id,
+            destination: address_from(ack.destination_is_extended, ack.destination, Misfit::ShortDestination)?,
+            source: address_from(ack.source_is_extended, ack.source, Misfit::ShortSource)?,
+            correction: ack.correction,
+            not_acknowledged: ack.not_acknowledged,
+        })
+    }
+}
+
+/// The reference's writing of an acknowledgement's record in C's form.
+pub fn write_ack(ack: &c::Ack, buffer: &mut [u8]) -> Result<usize, ack_write::Refusal> {
+    ack_write::write(&Ack::from_c(ack).map_err(Refusal::Misfit)?, buffer)
 }
 
 impl c::Table {

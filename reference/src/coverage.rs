@@ -300,7 +300,7 @@ impl FrameCoverage {
     pub fn expect(&self, least: usize) {
         self.kinds.expect("frames", 1, &Kind::ALL.map(|kind| format!("{kind:?}")));
         self.numbers.expect("numbers", least, &[0, 1, 2, 3, 4, 5, 6, 7, 8].map(|number| number.to_string()));
-        let checks: Vec<String> = Check::ALL.iter().map(|check| format!("{check:?}")).collect();
+        let checks: Vec<String> = Check::OF_BEACONS.iter().map(|check| format!("{check:?}")).collect();
         self.checks.expect("checks", least, &checks);
         self.records.expect("records read", least, &record_names());
     }
@@ -347,6 +347,28 @@ fn record_names() -> Vec<String> {
     let networks = (0..=LONGEST_NETWORK_ID).map(|length| format!("network ID of {length} bytes"));
     forms.map(String::from).into_iter().chain(links).chain(networks).collect()
 }
+
+/// How long a buffer is for a frame of this length, with the number that this gives.
+pub fn buffer_name(buffer: usize, length: usize) -> &'static str {
+    match buffer {
+        0 => "9, no byte",
+        _ if buffer + 1 == length => "9, a byte short",
+        _ if buffer < length => "9, some bytes short",
+        _ if buffer == length => "0, just long enough",
+        _ if buffer == length + 1 => "0, a byte left",
+        _ => "0, some bytes left",
+    }
+}
+
+/// The names that it gives.
+pub const BUFFER_NAMES: [&str; 6] = [
+    "9, no byte",
+    "9, a byte short",
+    "9, some bytes short",
+    "0, just long enough",
+    "0, a byte left",
+    "0, some bytes left",
+];
 
 /// What records that were to be written reached.
 #[derive(Clone, Debug, Default)]
@@ -398,17 +420,9 @@ impl WriteCoverage {
             Err(Refusal::FrameTooLong) => {
                 self.orders.add(if too_short { "1 for a buffer too short" } else { "1 for a buffer long enough" });
             }
-            Err(Refusal::BufferTooShort) => self.buffers.add(match (buffer, length - buffer) {
-                (0, _) => "9, no byte",
-                (_, 1) => "9, a byte short",
-                _ => "9, some bytes short",
-            }),
+            Err(Refusal::BufferTooShort) => self.buffers.add(buffer_name(buffer, length)),
             Ok(_) => {
-                self.buffers.add(match buffer - length {
-                    0 => "0, just long enough",
-                    1 => "0, a byte left",
-                    _ => "0, some bytes left",
-                });
+                self.buffers.add(buffer_name(buffer, length));
                 count_record(&mut self.records, length, &record.to_beacon().expect("it was written"));
             }
         }
@@ -458,18 +472,7 @@ impl WriteCoverage {
                 "1 for a buffer long enough",
             ],
         );
-        self.buffers.expect(
-            "buffers",
-            least,
-            &[
-                "9, no byte",
-                "9, a byte short",
-                "9, some bytes short",
-                "0, just long enough",
-                "0, a byte left",
-                "0, some bytes left",
-            ],
-        );
+        self.buffers.expect("buffers", least, &BUFFER_NAMES);
         self.records.expect("records written", least, &record_names());
         let met: BTreeSet<usize> = self.lengths.keys().copied().collect();
         let wanted: BTreeSet<usize> = Shape::all().iter().map(Shape::length).collect();

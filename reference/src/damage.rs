@@ -1,23 +1,20 @@
-//! Damage to frames: to their parts, so that faults of every kind meet, and to their bytes.
+//! Damage to beacons and acknowledgements: to their parts, so that faults of every kind meet, and to their bytes.
 
+use crate::ack::TIME_CORRECTION;
 use crate::beacons::{insert, random_bytes, random_joining, random_link};
 use crate::frame::{
-    HEADER_TERMINATION_1, HEADER_TERMINATION_2, IETF, LONG_HOPPING, PAYLOAD_TERMINATION, SHORT_SLOTFRAME,
+    Address, HEADER_TERMINATION_1, HEADER_TERMINATION_2, IETF, LONG_HOPPING, PAYLOAD_TERMINATION, SHORT_SLOTFRAME,
     SHORT_SYNCHRONIZATION, SHORT_TIMESLOT,
 };
 use crate::parts::{joining_bytes, link_bytes, Content, Element, Form, Parts};
 use crate::random::Random;
 
-/// Changes something in a frame's parts. Most changes make it a frame to be refused.
+/// Changes something in a beacon's parts. Most changes make it a frame to be refused.
 pub fn break_parts(random: &mut Random, parts: &mut Parts) {
     match random.below(100) {
         0..4 => parts.control ^= 1 << random.below(16),
-        4..7 => {
-            // Destination mode, version or source mode.
-            let place = random.pick(&[10, 12, 14]);
-            parts.control = parts.control & !(0b11 << place) | (random.below(4) as u16) << place;
-        }
-        7..9 => parts.destination = random.pick(&[0xFFFE, 0xFEFF, 0xFF00, 0x00FF, 0]),
+        4..7 => break_mode(random, parts),
+        7..9 => parts.destination = Address::Short(random.pick(&[0xFFFE, 0xFEFF, 0xFF00, 0x00FF, 0])),
         9..27 => break_header(random, parts),
         27..37 => break_payload(random, parts),
         37..60 => add_known(random, parts),
@@ -31,6 +28,12 @@ pub fn break_parts(random: &mut Random, parts: &mut Parts) {
             }
         }
     }
+}
+
+/// Changes destination mode, version or source mode.
+fn break_mode(random: &mut Random, parts: &mut Parts) {
+    let place = random.pick(&[10, 12, 14]);
+    parts.control = parts.control & !(0b11 << place) | (random.below(4) as u16) << place;
 }
 
 fn break_header(random: &mut Random, parts: &mut Parts) {
@@ -232,6 +235,53 @@ fn remove_known(random: &mut Random, parts: &mut Parts) {
     }
 }
 
+/// Changes something in an acknowledgement's parts. Most changes make it a frame to be refused.
+pub fn break_ack_parts(random: &mut Random, parts: &mut Parts) {
+    match random.below(100) {
+        0..8 => parts.control ^= 1 << random.below(16),
+        8..12 => break_mode(random, parts),
+        12..15 => parts.control = parts.control & !0b111 | random.below(8) as u16,
+        15..20 => {
+            // The modes and PAN ID compression stay as they are.
+            let address = if random.chance(50) { &mut parts.destination } else { &mut parts.source };
+            *address = match *address {
+                Address::Short(address) => Address::Extended(address.into()),
+                Address::Extended(address) => Address::Short(address as u16),
+            };
+        }
+        20..36 => break_header(random, parts),
+        36..58 => {
+            let element = any_correction(random);
+            insert(random, &mut parts.header, element);
+        }
+        58..70 => {
+            for element in parts.header.iter_mut().filter(|element| element.is(Form::Header, TIME_CORRECTION)) {
+                *element = any_correction(random);
+            }
+        }
+        70..78 => parts.header.retain(|element| !element.is(Form::Header, TIME_CORRECTION)),
+        78..86 => {
+            let id = random.pick(&[HEADER_TERMINATION_1, HEADER_TERMINATION_2]);
+            let length = random.pick(&[0, 0, 1, 2]);
+            let content = random_bytes(random, length);
+            insert(random, &mut parts.header, Element::new(Form::Header, id, content));
+        }
+        86..90 => parts.tail.extend(random_bytes(random, 1)),
+        _ => {
+            if !parts.header.is_empty() {
+                let place = random.below(parts.header.len() as u64) as usize;
+                break_element(random, &mut parts.header[place]);
+            }
+        }
+    }
+}
+
+/// A time correction whose length is often the right one.
+fn any_correction(random: &mut Random) -> Element {
+    let length = random.pick(&[2, 2, 2, 2, 0, 1, 3, 4, 34]);
+    Element::new(Form::Header, TIME_CORRECTION, random_bytes(random, length))
+}
+
 /// Changes a frame's bytes in one place, or its length.
 pub fn break_bytes(random: &mut Random, frame: &mut Vec<u8>, descriptors: &[usize]) {
     if frame.is_empty() {
@@ -252,14 +302,25 @@ pub fn break_bytes(random: &mut Random, frame: &mut Vec<u8>, descriptors: &[usiz
     }
 }
 
+/// The frame with one damage: a bit flip, a cut or another length in a descriptor.
+pub fn damaged(random: &mut Random, frame: &[u8], descriptors: &[usize]) -> Vec<u8> {
+    let mut frame = frame.to_vec();
+    match random.below(3) {
+        0 => flip_bit(random, &mut frame),
+        1 => frame.truncate(random.below(frame.len() as u64) as usize),
+        _ => edit_length(random, &mut frame, descriptors),
+    }
+    frame
+}
+
 /// Inverts one bit of a frame that is not empty.
-pub fn flip_bit(random: &mut Random, frame: &mut [u8]) {
+fn flip_bit(random: &mut Random, frame: &mut [u8]) {
     let place = random.below(frame.len() as u64) as usize;
     frame[place] ^= 1 << random.below(8);
 }
 
 /// Changes the low bits of the length in one of the descriptors; there is at least one.
-pub fn edit_length(random: &mut Random, frame: &mut [u8], descriptors: &[usize]) {
+fn edit_length(random: &mut Random, frame: &mut [u8], descriptors: &[usize]) {
     let at = random.pick(descriptors);
     // The frame may have been cut before it.
     if let Some(byte) = frame.get_mut(at) {

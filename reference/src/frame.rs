@@ -3,18 +3,14 @@
 //! Reading has two halves. The first goes through the frame, makes every check in its order and keeps the content of
 //! each known element; the second decodes what was kept, where nothing can go wrong any more.
 
-use crate::refusal::{ADDRESSING, CUT, FRAME_TOO_LONG, MISSING_OR_TWICE, OUT_OF_LIMITS, SECURED, SHAPE, WRONG_TYPE};
+use crate::mac::{address, field, frame_control, header_list, Control, Fields, BEACON, BIT_15};
 use crate::slot::{Link, MOST_LINKS};
 
-pub use crate::header::{LONGEST_FRAME, NETWORK_ID_BYTES as LONGEST_NETWORK_ID, TIMINGS};
+pub use crate::header::{NETWORK_ID_BYTES as LONGEST_NETWORK_ID, TIMINGS};
+pub use crate::mac::{Address, Check, EXTENDED, HEADER_TERMINATION_1, HEADER_TERMINATION_2, LONGEST_FRAME, SHORT};
 
-/// Address modes in the frame control field.
-pub const SHORT: u16 = 2;
-pub const EXTENDED: u16 = 3;
-
-/// Element IDs of the header list.
-pub const HEADER_TERMINATION_1: u16 = 0x7E;
-pub const HEADER_TERMINATION_2: u16 = 0x7F;
+/// The destination of every beacon.
+pub const BROADCAST: u16 = 0xFFFF;
 
 /// Group IDs of the payload list; the IETF's is from RFC 8137.
 pub const MLME: u16 = 1;
@@ -30,18 +26,10 @@ pub const LONG_HOPPING: u16 = 0x9;
 /// The IETF subtype of joining information, from RFC 9032.
 pub const JOINING: u8 = 2;
 
-const BIT_15: u16 = 1 << 15;
-
 /// The flags of joining information stand in one number with the priorities, most significant byte first: R 31, P 30,
 /// reserved and ignored 27 to 29, proxy priority 20 to 26, rank priority 8 to 19, PAN priority 0 to 7.
 pub const R_FLAG: u32 = 1 << 31;
 pub const P_FLAG: u32 = 1 << 30;
-
-#[derive(Clone, Copy, Debug, PartialEq, Eq)]
-pub enum Address {
-    Short(u16),
-    Extended(u64),
-}
 
 /// What a beacon says. Links from `count` on are zero.
 #[derive(Clone, Debug, PartialEq, Eq)]
@@ -72,95 +60,6 @@ pub struct JoiningInformation {
     pub pan_priority: u8,
     pub network: [u8; LONGEST_NETWORK_ID],
     pub network_length: usize,
-}
-
-/// Lists the checks, each with the number of its refusal.
-macro_rules! checks {
-    ($($(#[$comment:meta])* $check:ident: $number:ident,)*) => {
-        /// A check that a frame can fail.
-        #[derive(Clone, Copy, Debug, PartialEq, Eq)]
-        pub enum Check {
-            $($(#[$comment])* $check,)*
-        }
-
-        impl Check {
-            pub const ALL: &[Check] = &[$(Check::$check,)*];
-
-            /// The refusal number.
-            pub fn number(self) -> u8 {
-                match self {
-                    $(Check::$check => $number,)*
-                }
-            }
-        }
-    };
-}
-
-checks! {
-    FrameTooLong: FRAME_TOO_LONG,
-    /// No room for the frame control field.
-    UnderTwoBytes: CUT,
-    FrameType: WRONG_TYPE,
-    FrameVersion: WRONG_TYPE,
-    Security: SECURED,
-    DestinationMode: ADDRESSING,
-    SourceMode: ADDRESSING,
-    PanIdCompression: ADDRESSING,
-    ElementsPresent: ADDRESSING,
-    /// The sequence number, the PAN ID or an address.
-    FieldsCut: CUT,
-    /// The destination is not the broadcast address.
-    Destination: ADDRESSING,
-
-    HeaderDescriptorCut: CUT,
-    HeaderElementPastFrame: CUT,
-    /// Set, as in a payload element.
-    HeaderBit15: SHAPE,
-    HeaderTermination1WithLength: SHAPE,
-    HeaderTermination2WithLength: SHAPE,
-
-    PayloadDescriptorCut: CUT,
-    GroupPastFrame: CUT,
-    /// Clear, as in a header element.
-    PayloadBit15: SHAPE,
-    PayloadTerminationWithLength: SHAPE,
-    /// No room for the subtype.
-    IetfEmpty: SHAPE,
-
-    SubElementDescriptorCut: CUT,
-    SubElementPastGroup: CUT,
-    SynchronizationLength: SHAPE,
-    SynchronizationTwice: MISSING_OR_TWICE,
-    TimeslotLength: SHAPE,
-    TimeslotTwice: MISSING_OR_TWICE,
-    /// A template ID alone, and not 0.
-    TimeslotTemplate: OUT_OF_LIMITS,
-    HoppingEmpty: SHAPE,
-    HoppingTwice: MISSING_OR_TWICE,
-    HoppingTooLong: OUT_OF_LIMITS,
-    SlotframeUnderFiveBytes: SHAPE,
-    /// Not exactly one slotframe.
-    SlotframeCount: OUT_OF_LIMITS,
-    /// The length does not go with the number of links.
-    SlotframeLength: SHAPE,
-    SlotframeTwice: MISSING_OR_TWICE,
-    SlotframeSize: OUT_OF_LIMITS,
-    NoLinks: OUT_OF_LIMITS,
-    TooManyLinks: OUT_OF_LIMITS,
-    LinkTimeslot: OUT_OF_LIMITS,
-
-    /// No room for the flags and priorities.
-    JoiningTooShort: SHAPE,
-    /// The P flag is set, and there is no room for the address.
-    JoiningAddressCut: SHAPE,
-    /// The network ID has more than 16 bytes.
-    JoiningTooLong: SHAPE,
-    JoiningTwice: MISSING_OR_TWICE,
-
-    SynchronizationMissing: MISSING_OR_TWICE,
-    TimeslotMissing: MISSING_OR_TWICE,
-    HoppingMissing: MISSING_OR_TWICE,
-    SlotframeMissing: MISSING_OR_TWICE,
 }
 
 /// The frame's record, or the first check that it fails.
@@ -207,12 +106,6 @@ struct Contents<'a> {
     joining: Option<Joining<'a>>,
 }
 
-struct Fields {
-    sequence: Option<u8>,
-    pan: u16,
-    source: Address,
-}
-
 #[derive(Clone, Copy)]
 struct Slotframe<'a> {
     handle: u8,
@@ -230,11 +123,9 @@ struct Joining<'a> {
 
 /// Makes every check, in the order that decides which of several faults a frame is refused for.
 fn examine(frame: &[u8]) -> Result<Contents<'_>, Check> {
-    if frame.len() > LONGEST_FRAME {
-        return Err(Check::FrameTooLong);
-    }
     let (fields, list) = fixed_fields(frame)?;
-    let payload = header_list(list)?;
+    // No header element is known.
+    let payload = header_list(list, |_, _| Ok(()))?;
     let mut elements = Elements::default();
     elements.payload_list(payload)?;
     Ok(Contents {
@@ -249,84 +140,17 @@ fn examine(frame: &[u8]) -> Result<Contents<'_>, Check> {
 
 /// Reads what stands before the header list; gives that list too.
 fn fixed_fields(frame: &[u8]) -> Result<(Fields, &[u8]), Check> {
-    let Some((control, mut rest)) = frame.split_first_chunk() else {
-        return Err(Check::UnderTwoBytes);
-    };
-    let control = u16::from_le_bytes(*control);
-    let bit = |place: u32| control >> place & 1 == 1;
-    let two_bits = |place: u32| control >> place & 0b11;
-
-    if control & 0b111 != 0 {
-        return Err(Check::FrameType);
-    }
-    if two_bits(12) != 2 {
-        return Err(Check::FrameVersion);
-    }
-    if bit(3) {
-        return Err(Check::Security);
-    }
-    if two_bits(10) != SHORT {
-        return Err(Check::DestinationMode);
-    }
-    let source_mode = two_bits(14);
-    if source_mode != SHORT && source_mode != EXTENDED {
-        return Err(Check::SourceMode);
-    }
-    if !bit(6) {
-        return Err(Check::PanIdCompression);
-    }
-    if !bit(9) {
-        return Err(Check::ElementsPresent);
-    }
-
+    let (control, mut rest) = frame_control(frame)?;
+    let control = Control::read(control, BEACON, &[SHORT])?;
     // All fields must be there before the value of any is looked at.
-    let sequence = match bit(8) {
-        true => None,
-        false => Some(u8::from_le_bytes(field(&mut rest)?)),
-    };
+    let sequence = control.sequence(&mut rest)?;
     let pan = u16::from_le_bytes(field(&mut rest)?);
     let destination = u16::from_le_bytes(field(&mut rest)?);
-    let source = match source_mode {
-        SHORT => Address::Short(u16::from_le_bytes(field(&mut rest)?)),
-        _ => Address::Extended(u64::from_le_bytes(field(&mut rest)?)),
-    };
-    if destination != 0xFFFF {
+    let source = address(control.source_mode, &mut rest)?;
+    if destination != BROADCAST {
         return Err(Check::Destination);
     }
-    Ok((Fields { sequence, pan, source }, rest))
-}
-
-/// Takes a field from the front.
-fn field<const N: usize>(rest: &mut &[u8]) -> Result<[u8; N], Check> {
-    let (field, after) = rest.split_first_chunk().ok_or(Check::FieldsCut)?;
-    *rest = after;
-    Ok(*field)
-}
-
-/// Goes through the header list; gives the payload list, which is empty if none follows.
-fn header_list(mut list: &[u8]) -> Result<&[u8], Check> {
-    while !list.is_empty() {
-        let Some((descriptor, rest)) = list.split_first_chunk() else {
-            return Err(Check::HeaderDescriptorCut);
-        };
-        let descriptor = u16::from_le_bytes(*descriptor);
-        let length = usize::from(descriptor & 0x7F);
-        let id = descriptor >> 7 & 0xFF;
-        let Some(rest) = rest.get(length..) else {
-            return Err(Check::HeaderElementPastFrame);
-        };
-        if descriptor & BIT_15 != 0 {
-            return Err(Check::HeaderBit15);
-        }
-        match id {
-            HEADER_TERMINATION_1 if length != 0 => return Err(Check::HeaderTermination1WithLength),
-            HEADER_TERMINATION_2 if length != 0 => return Err(Check::HeaderTermination2WithLength),
-            HEADER_TERMINATION_1 => return Ok(rest),
-            HEADER_TERMINATION_2 => return Ok(&[]),
-            _ => list = rest,
-        }
-    }
-    Ok(&[])
+    Ok((Fields { sequence, pan, destination: Address::Short(BROADCAST), source }, rest))
 }
 
 /// The known elements met so far; each has passed all checks of its own.

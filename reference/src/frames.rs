@@ -64,14 +64,14 @@ pub fn visit_all(visit: &mut dyn FnMut(Kind, &[u8])) {
         samples.push(free_form(&mut random).1.bytes());
     }
     for sample in &samples {
-        visit_truncations(sample, visit);
-        visit_bit_flips(sample, visit);
+        truncations(sample, &mut |frame| visit(Kind::Truncation, frame));
+        flips(sample, &mut |frame| visit(Kind::BitFlip, frame));
     }
     for parts in [house_form(&random_beacon(&mut random, 60)), free_form(&mut random).1] {
         let (frame, descriptors) = parts.bytes_and_descriptors();
-        visit_words(&frame, 0, &mut |frame| visit(Kind::Control, frame));
+        words(&frame, 0, &mut |frame| visit(Kind::Control, frame));
         for at in descriptors {
-            visit_words(&frame, at, &mut |frame| visit(Kind::Descriptor, frame));
+            words(&frame, at, &mut |frame| visit(Kind::Descriptor, frame));
         }
     }
 
@@ -108,25 +108,27 @@ pub fn visit_all(visit: &mut dyn FnMut(Kind, &[u8])) {
     }
 }
 
-fn visit_truncations(frame: &[u8], visit: &mut dyn FnMut(Kind, &[u8])) {
+/// The frame and all its beginnings, from the whole frame down.
+pub fn truncations(frame: &[u8], visit: &mut dyn FnMut(&[u8])) {
     for length in (0..=frame.len()).rev() {
-        visit(Kind::Truncation, &frame[..length]);
+        visit(&frame[..length]);
     }
 }
 
-fn visit_bit_flips(frame: &[u8], visit: &mut dyn FnMut(Kind, &[u8])) {
+/// The frame with each of its bits inverted.
+pub fn flips(frame: &[u8], visit: &mut dyn FnMut(&[u8])) {
     let mut frame = frame.to_vec();
     for place in 0..frame.len() {
         for bit in 0..8 {
             frame[place] ^= 1 << bit;
-            visit(Kind::BitFlip, &frame);
+            visit(&frame);
             frame[place] ^= 1 << bit;
         }
     }
 }
 
 /// The frame with each of the 65536 values in the two bytes at a place.
-fn visit_words(frame: &[u8], at: usize, visit: &mut dyn FnMut(&[u8])) {
+pub fn words(frame: &[u8], at: usize, visit: &mut dyn FnMut(&[u8])) {
     let mut frame = frame.to_vec();
     for word in 0..=u16::MAX {
         frame[at..at + 2].copy_from_slice(&word.to_le_bytes());

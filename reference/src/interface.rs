@@ -14,6 +14,7 @@ pub enum Number<'a> {
     U16(&'a mut u16),
     U32(&'a mut u32),
     U64(&'a mut u64),
+    I32(&'a mut i32),
     Size(&'a mut usize),
 }
 
@@ -25,7 +26,7 @@ pub trait Numbers: Copy {
     /// Whether two are the same bit for bit. Of a flag all eight bits are compared: from C it may have any.
     fn same(&self, other: &Self) -> bool;
 
-    /// The numbers; a flag is 0 or 1.
+    /// The numbers; a flag is 0 or 1, a negative one has all bits over its own set.
     fn numbers(mut self) -> Vec<u64> {
         let mut numbers = Vec::new();
         self.visit(&mut |number| {
@@ -35,6 +36,7 @@ pub trait Numbers: Copy {
                 Number::U16(number) => u64::from(*number),
                 Number::U32(number) => u64::from(*number),
                 Number::U64(number) => *number,
+                Number::I32(number) => *number as u64,
                 Number::Size(number) => *number as u64,
             });
         });
@@ -61,6 +63,7 @@ whole_numbers! {
     u16: U16,
     u32: U32,
     u64: U64,
+    i32: I32,
     usize: Size,
 }
 
@@ -184,6 +187,24 @@ structs! {
     pub struct Span ("span") {
         pub offset: usize,
         pub length: usize,
+    }
+
+    /// An acknowledgement's record. The default is the blank record, all 0.
+    pub struct Ack ("ack") {
+        pub has_sequence_number: bool,
+        pub sequence_number: u8,
+        pub pan_id: u16,
+        pub destination_is_extended: bool,
+        pub destination: u64,
+        pub source_is_extended: bool,
+        pub source: u64,
+        pub correction: i32,
+        pub not_acknowledged: bool,
+    }
+
+    pub struct AckReading ("ack_reading") {
+        pub number: u8,
+        pub ack: Ack,
     }
 
     pub struct Neighbour ("neighbour") {

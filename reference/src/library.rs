@@ -1,7 +1,9 @@
 //! The static library's C interface, as its header declares it, and safe calls of it. Parameters have the header's names.
 
 use crate::convert::Reply;
-use crate::interface::{Beacon, Evaluation, Link, Metric, Reading, Replay, Slot, Span, Table, TableAnswer, Written};
+use crate::interface::{
+    Ack, AckReading, Beacon, Evaluation, Link, Metric, Reading, Replay, Slot, Span, Table, TableAnswer, Written,
+};
 use crate::log::Log;
 use crate::table::Call;
 
@@ -13,6 +15,10 @@ unsafe extern "C" {
     pub unsafe fn tesolvagna_beacon_write(buffer: *mut u8, buffer_length: usize, beacon: Beacon) -> Written;
 
     pub unsafe fn tesolvagna_beacon_network_id(frame: *const u8, length: usize) -> Span;
+
+    pub unsafe fn tesolvagna_ack_read(frame: *const u8, length: usize) -> AckReading;
+
+    pub unsafe fn tesolvagna_ack_write(buffer: *mut u8, buffer_length: usize, ack: Ack) -> Written;
 
     safe fn tesolvagna_table_init() -> Table;
 
@@ -70,6 +76,18 @@ pub fn write(beacon: &Beacon, buffer: &mut [u8]) -> Written {
 pub fn network_id(frame: &[u8]) -> Span {
     // SAFETY: as above.
     unsafe { tesolvagna_beacon_network_id(frame.as_ptr(), frame.len()) }
+}
+
+/// Reads a frame as an acknowledgement.
+pub fn read_ack(frame: &[u8]) -> AckReading {
+    // SAFETY: as above.
+    unsafe { tesolvagna_ack_read(frame.as_ptr(), frame.len()) }
+}
+
+/// Writes an acknowledgement's record at the start of a buffer.
+pub fn write_ack(ack: &Ack, buffer: &mut [u8]) -> Written {
+    // SAFETY: as above.
+    unsafe { tesolvagna_ack_write(buffer.as_mut_ptr(), buffer.len(), *ack) }
 }
 
 /// The empty table.

@@ -1,6 +1,11 @@
 //! How the benchmarks measure, also on a machine that does other work: the load is cut into chunks, all sides run on a
-//! chunk in turn, the least time of each chunk over all rounds is kept, and these are added up.
+//! chunk in turn, the least time of each chunk over all rounds is kept, and these are added up. And how frames are read and
+//! records written for it.
 
+use crate::frame::LONGEST_FRAME;
+use crate::interface::Written;
+use std::fmt::Debug;
+use std::hint::black_box;
 use std::ops::Range;
 use std::time::Instant;
 
@@ -40,6 +45,56 @@ pub fn compare(title: &str, what: &str, cases: usize, chunk: usize, sides: &mut 
     println!("{title}: ns per {what}, and the time of the first by it");
     for (side, time) in sides.iter().zip(&times) {
         println!("  {:<36} {time:8.2} {:6.2}", side.name, times[0] / time);
+    }
+}
+
+/// Frames, one behind the other.
+#[derive(Default)]
+pub struct Load {
+    pub bytes: Vec<u8>,
+    places: Vec<Range<usize>>,
+}
+
+impl Load {
+    pub fn push(&mut self, frame: &[u8]) {
+        self.places.push(self.bytes.len()..self.bytes.len() + frame.len());
+        self.bytes.extend(frame);
+    }
+
+    pub fn frames(&self, cases: Range<usize>) -> impl Iterator<Item = &[u8]> {
+        self.places[cases].iter().map(|place| &self.bytes[place.clone()])
+    }
+}
+
+/// Reads the frames through a pointer that the compiler cannot see through: no reader is inlined into the loop.
+pub fn read_frames<T>(read: fn(&[u8]) -> T, load: &Load, cases: Range<usize>) {
+    let read = black_box(read);
+    for frame in load.frames(cases) {
+        black_box(&read(frame));
+    }
+}
+
+/// Writes a record at the start of a buffer.
+pub type Write<T> = fn(&T, &mut [u8]) -> Written;
+
+/// Writes records through a pointer that the compiler cannot see through: no writer is inlined into the loop.
+pub fn write_records<T>(write: Write<T>, records: &[T]) {
+    let write = black_box(write);
+    let mut buffer = [0; LONGEST_FRAME];
+    for record in records {
+        black_box(write(record, &mut buffer));
+        black_box(&buffer);
+    }
+}
+
+/// Every side must write the frames and leave the rest of the buffer.
+pub fn check_frames<T: Debug>(name: &str, write: Write<T>, records: &[T], frames: &[Vec<u8>]) {
+    for (record, frame) in records.iter().zip(frames) {
+        let mut expected = [0x55; LONGEST_FRAME];
+        expected[..frame.len()].copy_from_slice(frame);
+        let mut buffer = [0x55; LONGEST_FRAME];
+        let written = Written { number: 0, length: frame.len() };
+        assert_eq!((write(record, &mut buffer), buffer), (written, expected), "{name}: {record:?}");
     }
 }
 

@@ -2,8 +2,8 @@
 //! form in which beacons are written.
 
 use crate::frame::{
-    Address, Beacon, JoiningInformation, EXTENDED, HEADER_TERMINATION_1, IETF, JOINING, LONGEST_FRAME, LONG_HOPPING,
-    MLME, P_FLAG, R_FLAG, SHORT, SHORT_SLOTFRAME, SHORT_SYNCHRONIZATION, SHORT_TIMESLOT,
+    Address, Beacon, JoiningInformation, BROADCAST, EXTENDED, HEADER_TERMINATION_1, IETF, JOINING, LONGEST_FRAME,
+    LONG_HOPPING, MLME, P_FLAG, R_FLAG, SHORT, SHORT_SLOTFRAME, SHORT_SYNCHRONIZATION, SHORT_TIMESLOT,
 };
 use crate::slot::Link;
 
@@ -12,7 +12,7 @@ pub struct Parts {
     pub control: u16,
     pub sequence: Option<u8>,
     pub pan: u16,
-    pub destination: u16,
+    pub destination: Address,
     pub source: Address,
     /// Both lists hold their terminator, if there is one.
     pub header: Vec<Element>,
@@ -102,10 +102,11 @@ impl Parts {
         frame.extend(self.control.to_le_bytes());
         frame.extend(self.sequence);
         frame.extend(self.pan.to_le_bytes());
-        frame.extend(self.destination.to_le_bytes());
-        match self.source {
-            Address::Short(address) => frame.extend(address.to_le_bytes()),
-            Address::Extended(address) => frame.extend(address.to_le_bytes()),
+        for address in [self.destination, self.source] {
+            match address {
+                Address::Short(address) => frame.extend(address.to_le_bytes()),
+                Address::Extended(address) => frame.extend(address.to_le_bytes()),
+            }
         }
         for element in self.header.iter().chain(&self.payload) {
             element.put(&mut frame, &mut descriptors);
@@ -166,7 +167,7 @@ pub fn house_form(beacon: &Beacon) -> Parts {
         control,
         sequence: beacon.sequence,
         pan: beacon.pan,
-        destination: 0xFFFF,
+        destination: Address::Short(BROADCAST),
         source: beacon.source,
         header: vec![Element::new(Form::Header, HEADER_TERMINATION_1, Vec::new())],
         payload,

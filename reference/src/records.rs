@@ -83,7 +83,8 @@ pub fn visit_all(visit: &mut Visit) {
     for _ in 0..150_000 {
         let (record, length) = random_record(&mut random);
         let mut beacon = c::Beacon::of_record(&record);
-        scatter(&mut random, &mut beacon);
+        let chosen = choose_fields(&mut random, &beacon);
+        scatter(&mut random, &mut beacon, &chosen);
         visit(Kind::Random, &beacon, random_buffer(&mut random, length));
     }
 }
@@ -235,7 +236,7 @@ fn random_record(random: &mut Random) -> (Record, usize) {
 }
 
 /// The length of a buffer for a frame of this length: often just the frame's, or about it, or about the longest frame's.
-fn random_buffer(random: &mut Random, length: usize) -> usize {
+pub fn random_buffer(random: &mut Random, length: usize) -> usize {
     match random.below(12) {
         0 => 0,
         1 | 2 => length - 1,
@@ -265,8 +266,8 @@ fn visit_worked(visit: &mut Visit) {
 /// How many bits a record has; a flag has one.
 const BITS: usize = 6 + 24 * 8 + 52 * 16 + 12 * 32 + 3 * 64;
 
-/// Inverts a bit of a record, of those numbered below `BITS`.
-fn flip(beacon: &mut c::Beacon, bit: usize) {
+/// Inverts a bit of a record, counted from its first one.
+pub fn flip(record: &mut impl Numbers, bit: usize) {
     let mut start = 0;
     // Where in the next number the bit stands, if it does.
     let mut place = |width: usize| {
@@ -274,12 +275,13 @@ fn flip(beacon: &mut c::Beacon, bit: usize) {
         start += width;
         place
     };
-    beacon.visit(&mut |number| match number {
+    record.visit(&mut |number| match number {
         Number::Flag(flag) => *flag ^= place(1).is_some(),
         Number::U8(number) => *number ^= place(8).map_or(0, |at| 1 << at),
         Number::U16(number) => *number ^= place(16).map_or(0, |at| 1 << at),
         Number::U32(number) => *number ^= place(32).map_or(0, |at| 1 << at),
         Number::U64(number) => *number ^= place(64).map_or(0, |at| 1 << at),
+        Number::I32(number) => *number ^= place(32).map_or(0, |at| 1 << at),
         Number::Size(_) => unreachable!("a record has no such field"),
     });
 }
@@ -327,7 +329,7 @@ fn visit_broken_limits(random: &mut Random, visit: &mut Visit) {
 }
 
 /// A number over `largest`, at most `most`: the next one, the last one, the given one with a bit more, or any.
-fn over(random: &mut Random, number: u64, largest: u64, most: u64) -> u64 {
+pub fn over(random: &mut Random, number: u64, largest: u64, most: u64) -> u64 {
     match random.below(4) {
         0 => largest + 1,
         1 => most,
@@ -478,8 +480,8 @@ fn break_fit(random: &mut Random, beacon: &mut c::Beacon, misfit: Misfit) {
     }
 }
 
-/// Puts other numbers into a few fields, or into all.
-fn scatter(random: &mut Random, beacon: &mut c::Beacon) {
+/// A few fields of a record by their places among its numbers, or none, which stands for all.
+fn choose_fields(random: &mut Random, beacon: &c::Beacon) -> Vec<u64> {
     let fields = beacon.numbers().len() as u64;
     let mut chosen = Vec::new();
     if !random.chance(5) {
@@ -489,8 +491,13 @@ fn scatter(random: &mut Random, beacon: &mut c::Beacon) {
             chosen.push(if random.chance(50) { random.below(fields) } else { random.pick(&few) });
         }
     }
+    chosen
+}
+
+/// Puts other numbers into the chosen fields of a record, or into all if none is chosen.
+pub fn scatter(random: &mut Random, record: &mut impl Numbers, chosen: &[u64]) {
     let mut field = 0;
-    beacon.visit(&mut |number| {
+    record.visit(&mut |number| {
         if chosen.is_empty() || chosen.contains(&field) {
             let any = match random.below(4) {
                 0 => random.below(3),
@@ -504,6 +511,7 @@ fn scatter(random: &mut Random, beacon: &mut c::Beacon) {
                 Number::U16(number) => *number = any as u16,
                 Number::U32(number) => *number = any as u32,
                 Number::U64(number) => *number = any,
+                Number::I32(number) => *number = any as i32,
                 Number::Size(_) => unreachable!("a record has no such field"),
             }
         }

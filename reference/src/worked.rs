@@ -6,11 +6,12 @@
 use crate::frame::{Address, Beacon, Check, JoiningInformation};
 use crate::slot::{Link, MOST_LINKS};
 
+/// A frame and what reading it gives, a beacon's record if nothing else is said.
 #[derive(Clone, Debug)]
-pub struct Worked {
+pub struct Worked<R = Beacon> {
     pub name: &'static str,
     pub frame: Vec<u8>,
-    pub answer: Result<Beacon, Check>,
+    pub answer: Result<R, Check>,
 }
 
 /// The bytes of the lines of a text.
@@ -28,11 +29,11 @@ pub fn bytes(text: &str) -> Vec<u8> {
     bytes
 }
 
-fn accepted(name: &'static str, lines: &[&str], beacon: Beacon) -> Worked {
-    Worked { name, frame: bytes(&lines.join("\n")), answer: Ok(beacon) }
+pub fn accepted<R>(name: &'static str, lines: &[&str], record: R) -> Worked<R> {
+    Worked { name, frame: bytes(&lines.join("\n")), answer: Ok(record) }
 }
 
-fn refused(name: &'static str, lines: &[&str], check: Check) -> Worked {
+pub fn refused<R>(name: &'static str, lines: &[&str], check: Check) -> Worked<R> {
     Worked { name, frame: bytes(&lines.join("\n")), answer: Err(check) }
 }
 

@@ -4,10 +4,11 @@
 //! behind the other, where nothing can go wrong any more.
 
 use crate::frame::{
-    Address, Beacon, JoiningInformation, EXTENDED, HEADER_TERMINATION_1, IETF, JOINING, LONGEST_FRAME,
-    LONGEST_NETWORK_ID, LONG_HOPPING, MLME, P_FLAG, R_FLAG, SHORT, SHORT_SLOTFRAME, SHORT_SYNCHRONIZATION,
-    SHORT_TIMESLOT, TIMINGS,
+    Address, Beacon, JoiningInformation, BROADCAST, HEADER_TERMINATION_1, IETF, JOINING, LONGEST_FRAME,
+    LONGEST_NETWORK_ID, LONG_HOPPING, MLME, P_FLAG, R_FLAG, SHORT_SLOTFRAME, SHORT_SYNCHRONIZATION, SHORT_TIMESLOT,
+    TIMINGS,
 };
+use crate::mac::{Fields, Rest, BEACON};
 use crate::refusal::{BUFFER_TOO_SHORT, FRAME_TOO_LONG, OUT_OF_LIMITS};
 use crate::slot::{Link, LARGEST_ASN, MOST_LINKS};
 
@@ -113,17 +114,17 @@ limits! {
     AbsentJoining: |record| record.joining.present || record.joining == Joining::default(),
 }
 
-/// Why a record is not written.
+/// Why a record is not written; a beacon's, if nothing else is said.
 #[derive(Clone, Copy, Debug, PartialEq, Eq)]
-pub enum Refusal {
+pub enum Refusal<M = Misfit, L = Limit> {
     /// Of a record in C's form only.
-    Misfit(Misfit),
-    Limit(Limit),
+    Misfit(M),
+    Limit(L),
     FrameTooLong,
     BufferTooShort,
 }
 
-impl Refusal {
+impl<M, L> Refusal<M, L> {
     /// The refusal number.
     pub fn number(self) -> u8 {
         match self {
@@ -165,14 +166,9 @@ pub fn write(record: &Record, buffer: &mut [u8]) -> Result<usize, Refusal> {
 
 /// The length of the frame of a record within the limits.
 pub fn frame_length(record: &Record) -> usize {
-    let sequence = usize::from(record.sequence.is_some());
-    let source = match record.source {
-        Address::Short(_) => 2,
-        Address::Extended(_) => 8,
-    };
     let joining = if record.joining.present { 2 + joining_length(&record.joining) } else { 0 };
-    // Around them: frame control, PAN ID, destination, and the descriptors of header termination 1 and the MLME group.
-    2 + sequence + 2 + 2 + source + 2 + 2 + group_length(record) + joining
+    // Between them the descriptors of header termination 1 and the MLME group.
+    record.fields().length() + 2 + 2 + group_length(record) + joining
 }
 
 /// The lengths of contents, without their descriptors.
@@ -206,16 +202,7 @@ fn joining_length(joining: &Joining) -> usize {
     1 + 4 + if joining.proxied { 8 } else { 0 } + usize::from(joining.network_length)
 }
 
-/// The rest of the frame, still to be written.
-struct Rest<'a>(&'a mut [u8]);
-
 impl Rest<'_> {
-    fn put(&mut self, bytes: &[u8]) {
-        let (field, rest) = std::mem::take(&mut self.0).split_at_mut(bytes.len());
-        field.copy_from_slice(bytes);
-        self.0 = rest;
-    }
-
     /// The descriptor of a short sub-element.
     fn short(&mut self, id: u16, length: usize) {
         self.put(&(length as u16 | id << 8).to_le_bytes());
@@ -229,8 +216,8 @@ impl Rest<'_> {
 
 /// Fills the frame's bytes, which are as many as its length says.
 fn put_frame(record: &Record, mut rest: Rest) {
-    put_fields(record, &mut rest);
-    rest.put(&(HEADER_TERMINATION_1 << 7).to_le_bytes());
+    record.fields().put(BEACON, &mut rest);
+    rest.header(HEADER_TERMINATION_1, 0);
     rest.long(MLME, group_length(record));
     put_synchronization(record, &mut rest);
     put_timeslot(record, &mut rest);
@@ -241,26 +228,6 @@ fn put_frame(record: &Record, mut rest: Rest) {
         put_joining(&record.joining, &mut rest);
     }
     assert!(rest.0.is_empty(), "the fields end before the frame");
-}
-
-fn put_fields(record: &Record, rest: &mut Rest) {
-    let suppressed = u16::from(record.sequence.is_none());
-    let source_mode = match record.source {
-        Address::Short(_) => SHORT,
-        Address::Extended(_) => EXTENDED,
-    };
-    // Type 0 and version 2; PAN ID compression and elements present are set, every other flag is clear.
-    let control = 1 << 6 | suppressed << 8 | 1 << 9 | SHORT << 10 | 2 << 12 | source_mode << 14;
-    rest.put(&control.to_le_bytes());
-    if let Some(sequence) = record.sequence {
-        rest.put(&[sequence]);
-    }
-    rest.put(&record.pan.to_le_bytes());
-    rest.put(&[0xFF, 0xFF]);
-    match record.source {
-        Address::Short(address) => rest.put(&address.to_le_bytes()),
-        Address::Extended(address) => rest.put(&address.to_le_bytes()),
-    }
 }
 
 fn put_synchronization(record: &Record, rest: &mut Rest) {
@@ -329,6 +296,10 @@ impl Joining {
 }
 
 impl Record {
+    fn fields(&self) -> Fields {
+        Fields { sequence: self.sequence, pan: self.pan, destination: Address::Short(BROADCAST), source: self.source }
+    }
+
     fn split_links(&self) -> (&[Link], &[Link]) {
         self.links.split_at(usize::from(self.count).min(MOST_LINKS))
     }

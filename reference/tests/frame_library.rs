@@ -5,42 +5,19 @@ use reference::coverage::FrameCoverage;
 use reference::frame;
 use reference::frames::visit_all;
 use reference::interface::{Beacon, Numbers, Reading, Span};
+use reference::lent::Receiver;
 use reference::library;
 use reference::worked;
 use std::ptr::null;
 
-/// What a buffer holds before a frame is put into it.
-const FILL: u8 = 0x55;
-
-/// A receive buffer: a new frame is put over the older ones, whose ends stand behind it.
-struct Receiver {
-    buffer: Vec<u8>,
-}
-
-impl Receiver {
-    fn new() -> Receiver {
-        Receiver { buffer: Vec::new() }
-    }
-
-    /// Puts a frame at the buffer's start, and lets the library read it and look for its network ID there. Panics if the
-    /// library writes anything.
-    fn read(&mut self, frame: &[u8]) -> (Reading, Span) {
-        if self.buffer.len() < frame.len() {
-            self.buffer.resize(frame.len(), FILL);
+/// Lets the library read a frame in the receive buffer and look for its network ID there.
+fn read(receiver: &mut Receiver, frame: &[u8]) -> (Reading, Span) {
+    receiver.receive(frame, |bytes, length| {
+        // SAFETY: the frame has so many bytes there.
+        unsafe {
+            (library::tesolvagna_beacon_read(bytes, length), library::tesolvagna_beacon_network_id(bytes, length))
         }
-        self.buffer[..frame.len()].copy_from_slice(frame);
-        let before = self.buffer.clone();
-
-        // A pointer to bytes that may be written: the compiler takes nothing for granted when they are compared below.
-        let bytes = self.buffer.as_mut_ptr();
-        // SAFETY: the buffer holds `frame.len()` bytes or more.
-        let reading = unsafe { library::tesolvagna_beacon_read(bytes, frame.len()) };
-        // SAFETY: as above.
-        let network = unsafe { library::tesolvagna_beacon_network_id(bytes, frame.len()) };
-
-        assert!(self.buffer == before, "the frame was written: {frame:02X?}");
-        (reading, network)
-    }
+    })
 }
 
 /// Panics unless reading and network ID are as expected bit for bit, and those of a refusal all 0.
@@ -56,13 +33,13 @@ fn library_reads_as_the_reference() {
     /// A check that is met less often would be a matter of luck.
     const LEAST: usize = 1000;
 
-    let mut receiver = Receiver::new();
+    let mut receiver = Receiver::default();
     let mut coverage = FrameCoverage::default();
     let mut frames = 0;
     visit_all(&mut |kind, frame| {
         let answer = frame::read(frame);
         let expected = (Reading::of(&answer), convert::network_id(frame));
-        let found = receiver.read(frame);
+        let found = read(&mut receiver, frame);
         expect(|| format!("frame {frames}, {kind:?}"), frame, &found, &expected);
         coverage.add(kind, frame, &answer);
         frames += 1;
@@ -75,11 +52,11 @@ fn library_reads_as_the_reference() {
 /// The answers here are those written beside the frames, not the reference's.
 #[test]
 fn library_reads_worked_frames() {
-    let mut receiver = Receiver::new();
+    let mut receiver = Receiver::default();
     for worked in worked::frames() {
         let expected = Reading::of(&worked.answer);
         let length = usize::from(expected.beacon.joining.network_id_length);
-        let (reading, network) = receiver.read(&worked.frame);
+        let (reading, network) = read(&mut receiver, &worked.frame);
         assert!(reading.same(&expected), "{}: {reading:?}", worked.name);
         assert_eq!(network.length, length, "{}", worked.name);
         assert!(length > 0 || network.offset == 0, "{}: the empty part at the start", worked.name);
@@ -92,12 +69,12 @@ fn library_reads_worked_frames() {
 #[test]
 fn long_frames_are_refused() {
     let minimal = worked::bytes(worked::MINIMAL);
-    let mut receiver = Receiver::new();
+    let mut receiver = Receiver::default();
     for more in [126 - 38, 127 - 38, 128, 256, 2048, 65536, 1 << 20] {
         let mut frame = minimal.clone();
         frame.resize(minimal.len() + more, 0);
         let expected = (Reading { number: 1, beacon: Beacon::default() }, Span::default());
-        expect(|| format!("{} bytes", frame.len()), &minimal, &receiver.read(&frame), &expected);
+        expect(|| format!("{} bytes", frame.len()), &minimal, &read(&mut receiver, &frame), &expected);
     }
 }
 

@@ -84,6 +84,11 @@ fn c_program_reads_and_writes_beacons() {
 }
 
 #[test]
+fn c_program_reads_and_writes_acknowledgements() {
+    run_program(Language::C, "acks");
+}
+
+#[test]
 fn cxx_program_calls_the_library() {
     if Language::Cxx.is_here() {
         run_program(Language::Cxx, "header");
@@ -107,7 +112,7 @@ fn layout() -> Vec<String> {
         lines.push(format!("{name}  0 {size}"));
         lines.extend(fields.iter().map(|(field, offset, size)| format!("{name} {field} {offset} {size}")));
     }
-    assert_eq!(STRUCTS.len(), 16);
+    assert_eq!(STRUCTS.len(), 18);
     lines
 }
 

@@ -9,8 +9,8 @@ use reference::header::{
     TRANSMIT, UNKNOWN_NEIGHBOUR,
 };
 use reference::interface::{
-    Beacon, Evaluation, Joining, Link, Metric, Neighbour, Numbers, Reading, Replay, Slot, Slotframe, Span,
-    Synchronization, Table, TableAnswer, Timeslot, Written,
+    Ack, AckReading, Beacon, Evaluation, Joining, Link, Metric, Neighbour, Numbers, Reading, Replay, Slot, Slotframe,
+    Span, Synchronization, Table, TableAnswer, Timeslot, Written,
 };
 use reference::library;
 use reference::worked;
@@ -282,6 +282,145 @@ fn timings_have_the_names_of_the_standard() {
     assert!(reading.number == DONE && reading.beacon.timeslot.has_timings);
     for (timing, value) in named {
         assert_eq!(reading.beacon.timeslot.timings[timing], value, "timing {timing}");
+    }
+}
+
+/// An acknowledgement laid out by hand, and its record.
+struct AckExample {
+    name: &'static str,
+    frame: Vec<u8>,
+    ack: Ack,
+}
+
+/// Each pair of addresses. No two flags are the same in all of them.
+fn acks() -> [AckExample; 4] {
+    let (short_destination, short_source) = (0x1234, 7);
+    let (destination, source) = (0xF102_0304_0506_0708, 0x0200_00FF_FE00_002A);
+    [
+        AckExample {
+            name: "both short, sequence number",
+            frame: worked::bytes("42 AA 5C CD AB  fields\n 34 12 07 00  addresses\n 02 0F 9C 0F  correction"),
+            ack: Ack {
+                has_sequence_number: true,
+                sequence_number: 0x5C,
+                pan_id: 0xABCD,
+                destination_is_extended: false,
+                destination: short_destination,
+                source_is_extended: false,
+                source: short_source,
+                correction: -100,
+                not_acknowledged: false,
+            },
+        },
+        AckExample {
+            name: "extended source, not acknowledged",
+            frame: worked::bytes(
+                "42 EB CD AB 34 12        frame control, PAN ID, destination
+                 2A 00 00 FE FF 00 00 02  source
+                 02 0F FF 87              time correction",
+            ),
+            ack: Ack {
+                has_sequence_number: false,
+                sequence_number: 0,
+                pan_id: 0xABCD,
+                destination_is_extended: false,
+                destination: short_destination,
+                source_is_extended: true,
+                source,
+                correction: 2047,
+                not_acknowledged: true,
+            },
+        },
+        AckExample {
+            name: "extended destination, not acknowledged",
+            frame: worked::bytes(
+                "42 AF CD AB              frame control, PAN ID
+                 08 07 06 05 04 03 02 F1  destination
+                 07 00                    source
+                 02 0F 00 88              time correction",
+            ),
+            ack: Ack {
+                has_sequence_number: false,
+                sequence_number: 0,
+                pan_id: 0xABCD,
+                destination_is_extended: true,
+                destination,
+                source_is_extended: false,
+                source: short_source,
+                correction: -2048,
+                not_acknowledged: true,
+            },
+        },
+        AckExample {
+            name: "both extended, sequence number, not acknowledged",
+            frame: worked::bytes(
+                "02 EE 5C CD AB           frame control, sequence number, PAN ID
+                 08 07 06 05 04 03 02 F1  destination
+                 2A 00 00 FE FF 00 00 02  source
+                 02 0F 05 80              time correction",
+            ),
+            ack: Ack {
+                has_sequence_number: true,
+                sequence_number: 0x5C,
+                pan_id: 0xABCD,
+                destination_is_extended: true,
+                destination,
+                source_is_extended: true,
+                source,
+                correction: 5,
+                not_acknowledged: true,
+            },
+        },
+    ]
+}
+
+#[test]
+fn acks_are_read() {
+    for AckExample { name, frame, ack } in acks() {
+        let reading = library::read_ack(&frame);
+        assert!(reading.same(&AckReading { number: DONE, ack }), "{name}: {reading:?}");
+    }
+}
+
+/// All but the number is 0.
+#[test]
+fn cut_acks_are_refused() {
+    for AckExample { name, frame, .. } in acks() {
+        let reading = library::read_ack(&frame[..frame.len() - 1]);
+        assert!(reading.same(&AckReading { number: 2, ack: Ack::default() }), "{name}: {reading:?}");
+    }
+}
+
+#[test]
+fn acks_are_written() {
+    for AckExample { name, frame, ack } in acks() {
+        let mut buffer = vec![0x55; frame.len() + 3];
+        let written = library::write_ack(&ack, &mut buffer);
+        assert_eq!(written, Written { number: DONE, length: frame.len() }, "{name}");
+        assert_eq!(buffer, [&frame[..], &[0x55; 3]].concat(), "{name}");
+    }
+}
+
+/// Each field of the last record outside its limits alone, and the last value inside.
+#[test]
+fn fields_of_acks_outside_their_limits_are_refused() {
+    type Change = fn(&mut Ack);
+    let cases: &[(&str, Change, Change)] = &[
+        ("sequence number", |a| a.sequence_number = 0xFF, |a| a.has_sequence_number = false),
+        ("destination", |a| a.destination = u64::MAX, |a| a.destination_is_extended = false),
+        ("source", |a| a.source = u64::MAX, |a| a.source_is_extended = false),
+        ("least correction", |a| a.correction = -2048, |a| a.correction = -2049),
+        ("largest correction", |a| a.correction = 2047, |a| a.correction = 2048),
+    ];
+    let [.., AckExample { ack, .. }] = acks();
+    for (name, inside, outside) in cases {
+        let mut record = ack;
+        inside(&mut record);
+        assert_eq!(library::write_ack(&record, &mut [0x55; 25]).number, DONE, "{name}, inside");
+        outside(&mut record);
+        let mut buffer = [0x55; 25];
+        let written = library::write_ack(&record, &mut buffer);
+        assert_eq!((written, buffer), (Written { number: OUT_OF_LIMITS, length: 0 }, [0x55; 25]), "{name}, outside");
     }
 }
 

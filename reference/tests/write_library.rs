@@ -4,35 +4,18 @@ use reference::convert;
 use reference::coverage::WriteCoverage;
 use reference::frame;
 use reference::interface::{Beacon, Numbers, Written};
+use reference::lent::{Answer, Memory, FILL};
 use reference::library;
 use reference::random::Random;
-use reference::records::{visit_all, LONGEST_BUFFER};
+use reference::records::visit_all;
 use reference::worked;
 use reference::write::{frame_length, Record};
 use std::ptr::null_mut;
 
-/// What memory holds before a call.
-const FILL: u8 = 0x55;
-
-/// The memory of which buffers are lent: each has other bytes before and behind it.
-const MARGIN: usize = 64;
-const MEMORY: usize = MARGIN + LONGEST_BUFFER + MARGIN;
-
-/// What the library says of a record, and the memory that its buffer is part of.
-#[derive(Debug, PartialEq, Eq)]
-struct Answer {
-    written: Written,
-    memory: [u8; MEMORY],
-}
-
-/// Lets the library write a record into a part of the memory.
-fn write(beacon: &Beacon, mut memory: [u8; MEMORY], start: usize, length: usize) -> Answer {
-    // A pointer to all of it, which may be written: the compiler takes nothing for granted when it is compared.
-    let pointer = memory.as_mut_ptr();
-    assert!(start + length <= MEMORY);
-    // SAFETY: the buffer is part of the memory.
-    let written = unsafe { library::tesolvagna_beacon_write(pointer.add(start), length, *beacon) };
-    Answer { written, memory }
+/// Lets the library write a record into the memory's buffer.
+fn write(beacon: &Beacon, memory: &Memory) -> Answer {
+    // SAFETY: the buffer has so many bytes there.
+    memory.lend(|buffer, length| unsafe { library::tesolvagna_beacon_write(buffer, length, *beacon) })
 }
 
 /// What the library reads in a frame that it wrote.
@@ -40,14 +23,6 @@ fn read_back(frame: &[u8]) -> Beacon {
     let reading = library::read(frame);
     assert_eq!(reading.number, 0, "a frame that was written is refused: {frame:02X?}");
     reading.beacon
-}
-
-fn random_memory(random: &mut Random) -> [u8; MEMORY] {
-    let mut memory = [0; MEMORY];
-    for bytes in memory.chunks_mut(8) {
-        bytes.copy_from_slice(&random.number().to_le_bytes()[..bytes.len()]);
-    }
-    memory
 }
 
 #[test]
@@ -59,28 +34,19 @@ fn library_writes_as_the_reference() {
     let mut coverage = WriteCoverage::default();
     let (mut records, mut frames) = (0, 0);
     visit_all(&mut |kind, beacon, buffer| {
-        let before = random_memory(&mut random);
-        let start = random.below(MARGIN as u64) as usize;
-        let mut memory = before;
-        let verdict = convert::write(beacon, &mut memory[start..start + buffer]);
-        let answer = write(beacon, before, start, buffer);
-        assert_eq!(
-            answer,
-            Answer { written: Written::of(&verdict), memory },
-            "record {records}, {kind:?}, {verdict:?}, buffer of {buffer} bytes: {beacon:?}"
-        );
+        let memory = Memory::random(&mut random, buffer);
+        let mut verdict = Ok(0);
+        let expected = memory.lend_slice(|buffer| {
+            verdict = convert::write(beacon, buffer);
+            Written::of(&verdict)
+        });
+        let answer = write(beacon, &memory);
+        assert_eq!(answer, expected, "record {records}, {kind:?}, {verdict:?}, buffer of {buffer} bytes: {beacon:?}");
         // Whatever the reference does: nothing but the frame is written, and of a refused record nothing.
-        let Written { number, length } = answer.written;
-        let end = start + length;
-        assert!(number == 0 || length == 0, "record {records}");
-        assert!(answer.memory[..start] == before[..start] && answer.memory[end..] == before[end..], "record {records}");
-
-        if number == 0 {
-            let frame = &answer.memory[start..end];
+        if let Some(frame) = memory.frame(&answer) {
             let record = read_back(frame);
             assert!(record.same(beacon), "record {records}, {kind:?}, read back: {record:?}: {frame:02X?}");
-            let again = write(&record, before, start, buffer);
-            assert_eq!(again, answer, "record {records}, {kind:?}, written again: {beacon:?}");
+            assert_eq!(write(&record, &memory), answer, "record {records}, {kind:?}, written again: {beacon:?}");
             frames += 1;
         }
         coverage.add(kind, beacon, buffer, &verdict);

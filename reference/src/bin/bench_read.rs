@@ -4,48 +4,17 @@
 //! and a reader that fills C's record as it goes.
 
 use reference::beacons::random_beacon;
-use reference::damage::{edit_length, flip_bit};
+use reference::damage::damaged;
 use reference::frame::{self, Address, Beacon, LONGEST_FRAME};
 use reference::interface::Reading;
-use reference::measure::{compare, Side, CHUNK};
+use reference::measure::{compare, read_frames, Load, Side, CHUNK};
 use reference::parts::house_form;
 use reference::random::Random;
 use reference::slot::MOST_LINKS;
 use reference::{convert, direct, library};
 use std::collections::HashSet;
-use std::hint::black_box;
-use std::ops::Range;
 
 const FRAMES: usize = 100_000;
-
-/// Frames, one behind the other.
-#[derive(Default)]
-struct Load {
-    bytes: Vec<u8>,
-    places: Vec<Range<usize>>,
-}
-
-impl Load {
-    fn push(&mut self, frame: &[u8]) {
-        self.places.push(self.bytes.len()..self.bytes.len() + frame.len());
-        self.bytes.extend(frame);
-    }
-
-    fn frames(&self, cases: Range<usize>) -> impl Iterator<Item = &[u8]> {
-        self.places[cases].iter().map(|place| &self.bytes[place.clone()])
-    }
-}
-
-/// One damage in each frame: a bit flip, a cut or another length in a descriptor.
-fn damaged(random: &mut Random, frame: &[u8], descriptors: &[usize]) -> Vec<u8> {
-    let mut frame = frame.to_vec();
-    match random.below(3) {
-        0 => flip_bit(random, &mut frame),
-        1 => frame.truncate(random.below(frame.len() as u64) as usize),
-        _ => edit_length(random, &mut frame, descriptors),
-    }
-    frame
-}
 
 /// Different beacons in every form that can be written, and the same beacons damaged.
 fn loads(random: &mut Random) -> (Vec<Beacon>, Load, Load) {
@@ -75,20 +44,12 @@ fn check(load: &Load) -> [usize; 9] {
     numbers
 }
 
-/// Reads the frames through a pointer that the compiler cannot see through: no reader is inlined into the loop.
-fn run<T>(read: fn(&[u8]) -> T, load: &Load, cases: Range<usize>) {
-    let read = black_box(read);
-    for frame in load.frames(cases) {
-        black_box(&read(frame));
-    }
-}
-
 fn bench(title: &str, load: &Load) {
     let mut sides = [
-        Side { name: "library", run: &mut |cases| run(library::read as fn(&[u8]) -> Reading, load, cases) },
-        Side { name: "reference, its own record", run: &mut |cases| run(frame::read, load, cases) },
-        Side { name: "reference, converted to C's record", run: &mut |cases| run(convert::read, load, cases) },
-        Side { name: "reader that fills C's record", run: &mut |cases| run(direct::read, load, cases) },
+        Side { name: "library", run: &mut |cases| read_frames(library::read as fn(&[u8]) -> Reading, load, cases) },
+        Side { name: "reference, its own record", run: &mut |cases| read_frames(frame::read, load, cases) },
+        Side { name: "reference, converted to C's record", run: &mut |cases| read_frames(convert::read, load, cases) },
+        Side { name: "reader that fills C's record", run: &mut |cases| read_frames(direct::read, load, cases) },
     ];
     compare(title, "frame", FRAMES, CHUNK, &mut sides);
 }

@@ -6,18 +6,15 @@
 use reference::beacons::random_beacon;
 use reference::frame::{Address, LONGEST_FRAME};
 use reference::interface as c;
-use reference::measure::{compare, Side, CHUNK};
+use reference::measure::{check_frames, compare, write_records, Side, CHUNK};
 use reference::parts::house_form;
 use reference::random::Random;
 use reference::slot::MOST_LINKS;
 use reference::write::{write, Record};
 use reference::{convert, library};
 use std::collections::HashSet;
-use std::hint::black_box;
 
 const RECORDS: usize = 100_000;
-
-type Write<T> = fn(&T, &mut [u8]) -> c::Written;
 
 fn by_reference(beacon: &c::Beacon, buffer: &mut [u8]) -> c::Written {
     c::Written::of(&convert::write(beacon, buffer))
@@ -51,27 +48,6 @@ fn load(random: &mut Random) -> Load {
     load
 }
 
-/// All sides must write the frames and leave the rest of the buffer.
-fn check<T: std::fmt::Debug>(name: &str, write: Write<T>, records: &[T], frames: &[Vec<u8>]) {
-    for (record, frame) in records.iter().zip(frames) {
-        let mut expected = [0x55; LONGEST_FRAME];
-        expected[..frame.len()].copy_from_slice(frame);
-        let mut buffer = [0x55; LONGEST_FRAME];
-        let written = c::Written { number: 0, length: frame.len() };
-        assert_eq!((write(record, &mut buffer), buffer), (written, expected), "{name}: {record:?}");
-    }
-}
-
-/// Writes records through a pointer that the compiler cannot see through: no writer is inlined into the loop.
-fn run<T>(write: Write<T>, records: &[T]) {
-    let write = black_box(write);
-    let mut buffer = [0; LONGEST_FRAME];
-    for record in records {
-        black_box(write(record, &mut buffer));
-        black_box(&buffer);
-    }
-}
-
 fn main() {
     let load = load(&mut Random::new(0x3417E));
     let count = |rule: fn(&Record) -> bool| load.records.iter().filter(|record| rule(record)).count();
@@ -85,13 +61,19 @@ fn main() {
         assert!(load.records.iter().any(|record| usize::from(record.count) == links), "no record has {links} links");
     }
 
-    check("library", library::write, &load.beacons, &load.frames);
-    check("reference, C's record", by_reference, &load.beacons, &load.frames);
-    check("reference, its own record", by_reference_alone, &load.records, &load.frames);
+    check_frames("library", library::write, &load.beacons, &load.frames);
+    check_frames("reference, C's record", by_reference, &load.beacons, &load.frames);
+    check_frames("reference, its own record", by_reference_alone, &load.records, &load.frames);
     let mut sides = [
-        Side { name: "library", run: &mut |cases| run(library::write, &load.beacons[cases]) },
-        Side { name: "reference, its own record", run: &mut |cases| run(by_reference_alone, &load.records[cases]) },
-        Side { name: "reference, from C's record", run: &mut |cases| run(by_reference, &load.beacons[cases]) },
+        Side { name: "library", run: &mut |cases| write_records(library::write, &load.beacons[cases]) },
+        Side {
+            name: "reference, its own record",
+            run: &mut |cases| write_records(by_reference_alone, &load.records[cases]),
+        },
+        Side {
+            name: "reference, from C's record",
+            run: &mut |cases| write_records(by_reference, &load.beacons[cases]),
+        },
     ];
     compare("records", "record", RECORDS, CHUNK, &mut sides);
 }
