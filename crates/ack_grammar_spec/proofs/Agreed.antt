@@ -19,7 +19,7 @@ use Rattle.eb_grammar_spec.specs.Row.{le, bits}
 use Rattle.eb_grammar_spec.specs.Grammar.{contents}
 use Rattle.eb_grammar_spec.proofs.Stands.{Stands}
 use Rattle.eb_grammar_spec.proofs.Slices.{part, part-at, le-part, le-stands}
-use Rattle.ack_record.specs.declared.Ack.{Ack}
+use Rattle.ack_record_spec.specs.declared.Ack.{Ack}
 use Rattle.ack_read_spec.specs.Policy.{macHeaderFault}
 use Rattle.ack_read_spec.specs.Read.{foundIn, correctionOf, nackOf, ackFrom, foundOf, ackNumber, readAck}
 use Rattle.ack_read_spec.specs.declared.Found.{Found}

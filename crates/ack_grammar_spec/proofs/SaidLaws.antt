@@ -7,9 +7,9 @@ use mir.Val.{Fits}
 use lib.ListN.{getD}
 use Rattle.eb_read_spec.specs.Claims.{Bytes}
 use Rattle.eb_grammar_spec.proofs.SaidLaws.{as-said, form-said}
-use Rattle.ack_record.specs.declared.Ack.{Ack}
-use Rattle.ack_record.specs.declared.AckForm.{AckForm}
-use Rattle.ack_record.specs.Record.{formOf}
+use Rattle.ack_record_spec.specs.declared.Ack.{Ack}
+use Rattle.ack_record_spec.specs.declared.AckForm.{AckForm}
+use Rattle.ack_record_spec.specs.Record.{formOf}
 use Rattle.ack_read_spec.specs.Read.{readAck, formReading}
 use Rattle.ack_read_spec.specs.declared.AckAnswer.{AckAnswer}
 use Rattle.ack_read_spec.specs.declared.AckReading.{AckReading}

@@ -10,9 +10,9 @@ use Rattle.eb_read_spec.specs.Claims.{Bytes}
 use Rattle.eb_grammar_spec.specs.Row.{bits}
 use Rattle.eb_grammar_spec.specs.Grammar.{HeaderElements, contents}
 use Rattle.eb_grammar_spec.specs.Claims.{AnswerAsSaid, FormAsSaid}
-use Rattle.ack_record.specs.declared.Ack.{Ack}
-use Rattle.ack_record.specs.declared.AckForm.{AckForm}
-use Rattle.ack_record.specs.Record.{formOf}
+use Rattle.ack_record_spec.specs.declared.Ack.{Ack}
+use Rattle.ack_record_spec.specs.declared.AckForm.{AckForm}
+use Rattle.ack_record_spec.specs.Record.{formOf}
 use Rattle.ack_read_spec.specs.Read.{readAck}
 use Rattle.ack_read_spec.specs.Witnesses.{shortest, shortestRecord}
 use Rattle.ack_grammar_spec.specs.Grammar.{FixedFields, elementsOf, ListEnd, Accepts}

@@ -11,7 +11,7 @@ use Rattle.mac_header_spec.specs.declared.SequenceNumber.{SequenceNumber}
 use Rattle.mac_header_spec.specs.declared.Address.{Address}
 use Rattle.eb_grammar_spec.specs.Row.{le, bits}
 use Rattle.eb_grammar_spec.specs.Grammar.{SequenceBytes, AddressBytes, Descriptor, HeaderElements, header-end, header-element, Element, Once}
-use Rattle.ack_record.specs.declared.Ack.{Ack}
+use Rattle.ack_record_spec.specs.declared.Ack.{Ack}
 
 -- ---- frame control and the fixed fields
 -- PAN ID compression, by the modes of destination and source

@@ -16,8 +16,8 @@ use Rattle.octets_spec.proofs.ChoiceLaws.{if-lt, if-ge, if-eq, if-ne}
 use Rattle.mac_header_spec.specs.Fields.{macHeaderOf, AddressesFit}
 use Rattle.mac_header_spec.specs.declared.MacHeader.{MacHeader}
 use Rattle.eb_record_spec.proofs.FieldForms.{sequence-form, sequence-zero, address-form, number-form, kind-fits, suppressed-zero}
-use Rattle.ack_record.specs.declared.AckForm.{AckForm}
-use Rattle.ack_record.specs.Record.{formOf, isAck}
+use Rattle.ack_record_spec.specs.declared.AckForm.{AckForm}
+use Rattle.ack_record_spec.specs.Record.{formOf, isAck}
 use Rattle.ack_read_spec.specs.Policy.{compressionOf}
 use Rattle.ack_read_spec.specs.Read.{correctionOf, nackOf, ackFrom}
 

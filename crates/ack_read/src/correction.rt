@@ -43,7 +43,7 @@ fn end_number(fault: u8, at: usize) -> u8
 }
 
 // What the header list from an offset to an end gives.
-pub fn find(s: &[u8], at: usize, end: usize) -> Found
+pub(crate) fn find(s: &[u8], at: usize, end: usize) -> Found
     ensures { λ r. ⌜ r ≡ foundIn (headerList (now (s .entry)) at end) 0 ⌝ }
 {
     let mut i = at;
@@ -86,7 +86,7 @@ pub fn find(s: &[u8], at: usize, end: usize) -> Found
 }
 
 // The correction of two bytes, in microseconds.
-pub fn correction_of(word: u64) -> i32
+pub(crate) fn correction_of(word: u64) -> i32
     ensures { λ r. ⌜ r ≡ correctionOf word ⌝ }
 {
     let bits = (word % 0x1000) as i32;

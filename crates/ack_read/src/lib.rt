@@ -3,17 +3,17 @@ ghost use mathlib.Core.Path.{_≡_};
 ghost use mathlib.Core.Bool.{true};
 ghost use Rattle.octets_spec.specs.Number.{leAt};
 ghost use Rattle.mac_header_spec.specs.Fields.{macHeaderOf};
-ghost use Rattle.ack_record.specs.Record.{formOf, isAck};
+ghost use Rattle.ack_record_spec.specs.Record.{formOf, isAck};
 ghost use Rattle.ack_grammar_spec.specs.Claims.{ReadAsSaid, FormReadAsSaid};
 ghost use Rattle.ack_read_spec.specs.Claims.{NumbersTo7, OneIsTheLength, NeverABeaconToo};
 ghost use Rattle.ack_read_spec.specs.Read.{ackFrom, foundOf, readAck, formReading};
 pub use ack_read_spec::AckAnswer;
 use ack_read_spec::AckReading;
 use ack_read_spec::Found;
-use ack_record::AckForm;
+use ack_record_spec::AckForm;
 
-pub mod correction;
-pub mod policy;
+mod correction;
+mod policy;
 
 // What the header list of a frame gives.
 fn found_of(s: &[u8]) -> Found
@@ -55,14 +55,14 @@ pub fn read_form(s: &[u8]) -> AckReading
     if fault != refusal::DONE {
         return AckReading {
             number: fault,
-            ack: ack_record::blank_form(),
+            ack: ack_record_spec::blank_form(),
         };
     }
     let found = found_of(s);
     if found.number != refusal::DONE {
         return AckReading {
             number: found.number,
-            ack: ack_record::blank_form(),
+            ack: ack_record_spec::blank_form(),
         };
     }
     let at = found.at;
@@ -83,6 +83,6 @@ pub fn read(s: &[u8]) -> AckAnswer
     let reading = read_form(s);
     AckAnswer {
         number: reading.number,
-        ack: ack_record::ack_of(reading.ack),
+        ack: ack_record_spec::ack_of(reading.ack),
     }
 }

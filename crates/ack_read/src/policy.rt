@@ -57,7 +57,7 @@ fn form_fault(control: mac_header_spec::Control) -> u8
 }
 
 // The checks before the elements, in their order.
-pub fn mac_header_fault(s: &[u8]) -> u8
+pub(crate) fn mac_header_fault(s: &[u8]) -> u8
     ensures { λ r. ⌜ r ≡ macHeaderFault (now (s .entry)) ⌝ }
 {
     if MOST_BYTES < s.len() {

@@ -11,10 +11,10 @@ use Rattle.mac_header_spec.specs.Fields.{macHeaderOf}
 use Rattle.mac_header_spec.specs.declared.FieldOffsets.{FieldOffsets}
 use Rattle.ie_walk_spec.specs.Walk.{headerList}
 use Rattle.eb_record_spec.specs.Form.{isSequenced, sequenceNumber, isExtended, addressNumber}
-use Rattle.ack_record.specs.declared.Ack.{Ack}
-use Rattle.ack_record.specs.declared.AckForm.{AckForm}
-use Rattle.ack_record.specs.Record.{blankAck, formOf, ackOf, isAck}
-use Rattle.ack_record.proofs.FormLaws.{form-back}
+use Rattle.ack_record_spec.specs.declared.Ack.{Ack}
+use Rattle.ack_record_spec.specs.declared.AckForm.{AckForm}
+use Rattle.ack_record_spec.specs.Record.{blankAck, formOf, ackOf, isAck}
+use Rattle.ack_record_spec.proofs.FormLaws.{form-back}
 use Rattle.ack_read_spec.specs.Policy.{macHeaderFault}
 use Rattle.ack_read_spec.specs.Read.{foundIn, ackFrom, foundOf, ackNumber, readAck, formReading}
 use Rattle.ack_read_spec.specs.declared.Found.{Found}

@@ -11,8 +11,8 @@ use Rattle.refusal.specs.Refusal.{done, shape, missingOrTwice}
 use Rattle.mac_header_spec.specs.Fields.{macHeaderOf, sequenceOf, addressOf}
 use Rattle.mac_header_spec.specs.declared.MacHeader.{MacHeader}
 use Rattle.ie_walk_spec.specs.Walk.{HeaderElement, HeaderList, headerList}
-use Rattle.ack_record.specs.declared.Ack.{Ack}
-use Rattle.ack_record.specs.Record.{blankAck, formOf}
+use Rattle.ack_record_spec.specs.declared.Ack.{Ack}
+use Rattle.ack_record_spec.specs.Record.{blankAck, formOf}
 use Rattle.ack_read_spec.specs.Policy.{macHeaderFault}
 use Rattle.ack_read_spec.specs.declared.Found.{Found}
 use Rattle.ack_read_spec.specs.declared.AckAnswer.{AckAnswer}

@@ -9,8 +9,8 @@ use lib.ListN.{take, replicate}
 use Rattle.refusal.specs.Refusal.{done, cut}
 use Rattle.mac_header_spec.specs.declared.SequenceNumber.the-variants.{Absent}
 use Rattle.mac_header_spec.specs.declared.Address.the-variants.{Short}
-use Rattle.ack_record.specs.declared.Ack.{Ack}
-use Rattle.ack_record.specs.Record.{blankAck}
+use Rattle.ack_record_spec.specs.declared.Ack.{Ack}
+use Rattle.ack_record_spec.specs.Record.{blankAck}
 use Rattle.ack_read_spec.specs.Read.{correctionOf, readAck}
 
 -- a frame of 12 bytes (docs/RULES.md, A worked acknowledgement)

@@ -12,14 +12,14 @@ pub struct Found {
 // The number of a frame and its record, which is the blank one if the number is not 0.
 pub struct AckAnswer {
     pub number: u8,
-    pub ack: ack_record::Ack,
+    pub ack: ack_record_spec::Ack,
 }
 
 // The same without enums, as C has it.
 #[repr(C)]
 pub struct AckReading {
     pub number: u8,
-    pub ack: ack_record::AckForm,
+    pub ack: ack_record_spec::AckForm,
 }
 
 // Cites each theorem, so that the gate fails if the proof of one goes.

@@ -6,7 +6,7 @@ ghost use Rattle.ack_write_spec.specs.Frame.{frameOf};
 ghost use Rattle.ack_write_spec.specs.Limits.{fits};
 ghost use Rattle.ack_round_trip_spec.specs.ReadBack.{backFrom};
 use ack_read::AckAnswer;
-use ack_record::Ack;
+use ack_record_spec::Ack;
 
 // Writes a record's frame at the start of a lent buffer, and reads it there.
 pub fn write_and_read(buffer: &mut [u8], ack: Ack) -> AckAnswer
@@ -17,7 +17,7 @@ pub fn write_and_read(buffer: &mut [u8], ack: Ack) -> AckAnswer
     if written.number != refusal::DONE {
         return AckAnswer {
             number: written.number,
-            ack: ack_record::blank(),
+            ack: ack_record_spec::blank(),
         };
     }
     let length = written.length;

@@ -18,7 +18,7 @@ use Rattle.eb_grammar_spec.specs.Row.{le}
 use Rattle.eb_grammar_spec.specs.Grammar.{HeaderElements, header-end, header-element, contents}
 use Rattle.eb_round_trip_spec.proofs.AllBytes.{All, also, parts, behind-byte, le-small}
 use Rattle.eb_round_trip_spec.proofs.Fits.{sequence-fits, address-fits}
-use Rattle.ack_record.specs.declared.Ack.{Ack}
+use Rattle.ack_record_spec.specs.declared.Ack.{Ack}
 use Rattle.ack_read_spec.specs.Read.{correctionOf}
 use Rattle.ack_write_spec.specs.Frame.{frameOf, frameLength}
 use Rattle.ack_write_spec.specs.Limits.{isCorrection, fits}

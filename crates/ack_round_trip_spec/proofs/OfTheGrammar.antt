@@ -22,7 +22,7 @@ use Rattle.eb_write_spec.proofs.LengthLaws.{length-le, on}
 use Rattle.eb_grammar_spec.specs.Row.{le, bits}
 use Rattle.eb_grammar_spec.specs.Grammar.{Descriptor, HeaderElements, header-end, header-element, contents}
 use Rattle.eb_round_trip_spec.proofs.OfTheGrammar.{le-of, number, address}
-use Rattle.ack_record.specs.declared.Ack.{Ack}
+use Rattle.ack_record_spec.specs.declared.Ack.{Ack}
 use Rattle.ack_read_spec.specs.Read.{correctionOf}
 use Rattle.ack_write_spec.specs.Frame.{compressionBit, controlWord, macHeaderBytes, correctionBits, correctionWord, correctionBytes, frameOf}
 use Rattle.ack_write_spec.specs.Limits.{isCorrection, fits}

@@ -15,10 +15,10 @@ use Rattle.eb_write_spec.proofs.WrittenLaws.{each-when}
 use Rattle.eb_read_spec.specs.Claims.{Bytes}
 use Rattle.eb_round_trip_spec.proofs.AllBytes.{All, bytes-of, all-of, both, parts}
 use Rattle.eb_round_trip_spec.proofs.ReadsBack.{all-le, all-sequence, all-address}
-use Rattle.ack_record.specs.declared.Ack.{Ack}
-use Rattle.ack_record.specs.declared.AckForm.{AckForm}
-use Rattle.ack_record.specs.Record.{formOf, ackOf, isAck}
-use Rattle.ack_record.proofs.FormLaws.{forms-give-the-record, records-give-the-form}
+use Rattle.ack_record_spec.specs.declared.Ack.{Ack}
+use Rattle.ack_record_spec.specs.declared.AckForm.{AckForm}
+use Rattle.ack_record_spec.specs.Record.{formOf, ackOf, isAck}
+use Rattle.ack_record_spec.proofs.FormLaws.{forms-give-the-record, records-give-the-form}
 use Rattle.ack_read_spec.specs.Read.{readAck}
 use Rattle.ack_read_spec.specs.Witnesses.{shortest}
 use Rattle.ack_read_spec.specs.declared.AckAnswer.{AckAnswer}

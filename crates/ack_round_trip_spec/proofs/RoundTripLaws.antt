@@ -8,9 +8,9 @@ use Rattle.octets_spec.proofs.ChoiceLaws.{if-eq, if-ne}
 use Rattle.eb_write_spec.specs.Write.{numberFor, answerFor, bufferFor}
 use Rattle.eb_write_spec.specs.declared.Written.{Written}
 use Rattle.eb_write_spec.proofs.WrittenLaws.{each-when, number-is, done-number, part-is}
-use Rattle.ack_record.specs.declared.Ack.{Ack}
-use Rattle.ack_record.specs.declared.AckForm.{AckForm}
-use Rattle.ack_record.specs.Record.{blankAck, ackOf}
+use Rattle.ack_record_spec.specs.declared.Ack.{Ack}
+use Rattle.ack_record_spec.specs.declared.AckForm.{AckForm}
+use Rattle.ack_record_spec.specs.Record.{blankAck, ackOf}
 use Rattle.ack_read_spec.specs.declared.AckAnswer.{AckAnswer}
 use Rattle.ack_write_spec.specs.Frame.{frameOf}
 use Rattle.ack_write_spec.specs.Limits.{fits}

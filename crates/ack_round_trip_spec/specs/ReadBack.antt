@@ -8,9 +8,9 @@ use Rattle.octets_spec.specs.Choice.{ifEq}
 use Rattle.refusal.specs.Refusal.{done}
 use Rattle.eb_read_spec.specs.Claims.{Bytes}
 use Rattle.eb_write_spec.specs.Write.{numberFor, answerFor}
-use Rattle.ack_record.specs.declared.Ack.{Ack}
-use Rattle.ack_record.specs.declared.AckForm.{AckForm}
-use Rattle.ack_record.specs.Record.{blankAck, formOf, ackOf}
+use Rattle.ack_record_spec.specs.declared.Ack.{Ack}
+use Rattle.ack_record_spec.specs.declared.AckForm.{AckForm}
+use Rattle.ack_record_spec.specs.Record.{blankAck, formOf, ackOf}
 use Rattle.ack_read_spec.specs.Read.{readAck}
 use Rattle.ack_read_spec.specs.Witnesses.{shortest}
 use Rattle.ack_read_spec.specs.declared.AckAnswer.{AckAnswer}

@@ -23,7 +23,7 @@ use Rattle.eb_write_spec.specs.Limits.{sequenceFits}
 use Rattle.eb_write_spec.proofs.LengthLaws.{length-le, on}
 use Rattle.eb_write_spec.proofs.Claimed.{differ}
 use Rattle.eb_write_spec.proofs.RowLaws.{two, three, le-joined}
-use Rattle.ack_record.specs.declared.Ack.{Ack}
+use Rattle.ack_record_spec.specs.declared.Ack.{Ack}
 use Rattle.ack_write_spec.specs.Frame.{compressionBit, controlWord, macHeaderBytes, correctionBits, correctionWord, correctionBytes, frameOf}
 use Rattle.ack_write_spec.specs.Limits.{isCorrection, fits}
 

@@ -4,7 +4,7 @@ use mathlib.Core.Path.{_≡_}
 use mathlib.Core.List.{List}
 use lib.ListN.{length}
 use Rattle.eb_write_spec.specs.Write.{answerFor, bufferFor}
-use Rattle.ack_record.specs.declared.Ack.{Ack}
+use Rattle.ack_record_spec.specs.declared.Ack.{Ack}
 use Rattle.ack_write_spec.specs.Frame.{frameOf}
 use Rattle.ack_write_spec.specs.Limits.{fits}
 use Rattle.ack_write_spec.specs.Claims.{WriteNumbers, NeverTooLong}

@@ -8,7 +8,7 @@ ghost use Rattle.octets_spec.specs.Number.{stored};
 ghost use Rattle.eb_write_spec.specs.Frame.{addressBytes};
 ghost use Rattle.ack_write_spec.specs.Frame.{compressionBit, controlWord, macHeaderBytes, correctionBits, correctionWord, correctionBytes, frameOf};
 ghost use Rattle.ack_write_spec.specs.Limits.{isCorrection};
-use ack_record::Ack;
+use ack_record_spec::Ack;
 use mac_header_spec::Address;
 
 // Frame control of every acknowledgement: type 2, elements present, version 2.

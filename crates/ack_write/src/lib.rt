@@ -6,7 +6,7 @@ ghost use Rattle.ack_write_spec.specs.Frame.{frameOf};
 ghost use Rattle.ack_write_spec.specs.Limits.{isCorrection, fits};
 ghost use Rattle.ack_write_spec.specs.Claims.{WriteNumbers, NeverTooLong};
 ghost use Rattle.ack_round_trip_spec.specs.ReadBack.{WrittenAsSaid};
-use ack_record::Ack;
+use ack_record_spec::Ack;
 use eb_write_spec::Written;
 
 mod frame;

@@ -16,8 +16,8 @@ use Rattle.eb_write_spec.specs.Frame.{sequenceBytes, addressBytes, headerDescri
 use Rattle.eb_write_spec.specs.Limits.{sequenceFits}
 use Rattle.eb_write_spec.proofs.LengthLaws.{length-le}
 use Rattle.eb_write_spec.proofs.WrittenLaws.{each-when}
-use Rattle.ack_record.specs.declared.Ack.{Ack}
-use Rattle.ack_record.specs.Record.{ackOf}
+use Rattle.ack_record_spec.specs.declared.Ack.{Ack}
+use Rattle.ack_record_spec.specs.Record.{ackOf}
 use Rattle.ack_write_spec.specs.Frame.{macHeaderBytes, correctionBytes, frameOf, frameLength}
 use Rattle.ack_write_spec.specs.Limits.{isCorrection, fits, formFits}
 use Rattle.ack_write_spec.specs.Claims.{WriteNumbers, FormNumbers, LengthIsTheFormula, LengthsFrom12To25, LengthsAreMet, NeverTooLong}

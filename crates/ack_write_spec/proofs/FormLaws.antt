@@ -7,9 +7,9 @@ use borrow.Author.Tests.{not-true, not-false}
 use Rattle.octets_spec.specs.Choice.{ifOn, ifEq}
 use Rattle.eb_write_spec.specs.declared.Written.{Written}
 use Rattle.eb_write_spec.specs.Write.{numberFor, answerFor, bufferFor}
-use Rattle.ack_record.specs.declared.Ack.{Ack}
-use Rattle.ack_record.specs.declared.AckForm.{AckForm}
-use Rattle.ack_record.specs.Record.{ackOf, isAck}
+use Rattle.ack_record_spec.specs.declared.Ack.{Ack}
+use Rattle.ack_record_spec.specs.declared.AckForm.{AckForm}
+use Rattle.ack_record_spec.specs.Record.{ackOf, isAck}
 use Rattle.ack_write_spec.specs.Frame.{frameOf}
 use Rattle.ack_write_spec.specs.Limits.{fits, formFits}
 

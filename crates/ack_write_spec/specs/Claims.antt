@@ -6,9 +6,9 @@ use lib.ListN.{length}
 use Rattle.refusal.specs.Refusal.{frameTooLong}
 use Rattle.eb_write_spec.specs.Write.{numberFor}
 use Rattle.eb_write_spec.specs.Claims.{EachWhen}
-use Rattle.ack_record.specs.declared.Ack.{Ack}
-use Rattle.ack_record.specs.declared.AckForm.{AckForm}
-use Rattle.ack_record.specs.Record.{ackOf}
+use Rattle.ack_record_spec.specs.declared.Ack.{Ack}
+use Rattle.ack_record_spec.specs.declared.AckForm.{AckForm}
+use Rattle.ack_record_spec.specs.Record.{ackOf}
 use Rattle.ack_write_spec.specs.Frame.{frameOf, frameLength}
 use Rattle.ack_write_spec.specs.Limits.{fits, formFits}
 

@@ -9,7 +9,7 @@ use Rattle.octets_spec.specs.Number.{leBytes}
 use Rattle.mac_header_spec.specs.declared.Address.{Address}
 use Rattle.mac_header_spec.specs.declared.Address.the-variants.{Short, Extended}
 use Rattle.eb_write_spec.specs.Frame.{suppressedBit, sequenceBytes, addressMode, addressBytes, headerDescriptor, flag}
-use Rattle.ack_record.specs.declared.Ack.{Ack}
+use Rattle.ack_record_spec.specs.declared.Ack.{Ack}
 
 -- the header element that holds the correction
 abbrev pub correctionId : ℕ

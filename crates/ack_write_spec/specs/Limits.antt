@@ -6,9 +6,9 @@ use lib.IntN.{ℤ, pos, negℤ}
 use lib.Signed.{leZ}
 use Rattle.eb_record_spec.specs.Form.{addressFits}
 use Rattle.eb_write_spec.specs.Limits.{sequenceFits}
-use Rattle.ack_record.specs.declared.Ack.{Ack}
-use Rattle.ack_record.specs.declared.AckForm.{AckForm}
-use Rattle.ack_record.specs.Record.{ackOf, isAck}
+use Rattle.ack_record_spec.specs.declared.Ack.{Ack}
+use Rattle.ack_record_spec.specs.declared.AckForm.{AckForm}
+use Rattle.ack_record_spec.specs.Record.{ackOf, isAck}
 
 -- a correction has 12 bits, in two's complement: -2048 to 2047
 unfoldable pub isCorrection : ℤ → Bool

@@ -2,7 +2,7 @@
 ghost use mathlib.Core.Path.{_≡_};
 ghost use lib.ListN.{length};
 ghost use Rattle.eb_write_spec.specs.Write.{answerFor, bufferFor};
-ghost use Rattle.ack_record.specs.Record.{ackOf};
+ghost use Rattle.ack_record_spec.specs.Record.{ackOf};
 ghost use Rattle.ack_write_spec.specs.Frame.{frameOf};
 ghost use Rattle.ack_write_spec.specs.Limits.{formFits};
 ghost use Rattle.ack_write_spec.specs.Claims.{FormNumbers, NeverTooLong};
@@ -10,7 +10,7 @@ ghost use Rattle.ack_read_spec.specs.Read.{readAck, formReading};
 ghost use Rattle.ack_grammar_spec.specs.Claims.{FormReadAsSaid};
 ghost use Rattle.ack_round_trip_spec.specs.ReadBack.{WrittenAsSaid};
 use ack_read_spec::AckReading;
-use ack_record::AckForm;
+use ack_record_spec::AckForm;
 use eb_write_spec::Written;
 
 // The number of a frame and its record, which is the blank one if the frame is refused: done exactly with the record that the bytes say
@@ -33,11 +33,11 @@ pub extern "C" fn tesolvagna_ack_write(buffer: &mut [u8], ack: AckForm) -> Writt
     ensures length { λ _. ⌜ NeverTooLong ⌝ }
     ensures as_said { λ r. ⌜ WrittenAsSaid (r .number) (r .length) (now (buffer .exit)) (ackOf ack) ⌝ }
 {
-    if !ack_record::is_ack(ack) {
+    if !ack_record_spec::is_ack(ack) {
         return Written {
             number: refusal::OUT_OF_LIMITS,
             length: 0,
         };
     }
-    ack_write::write(buffer, ack_record::ack_of(ack))
+    ack_write::write(buffer, ack_record_spec::ack_of(ack))
 }

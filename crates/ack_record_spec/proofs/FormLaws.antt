@@ -8,9 +8,9 @@ use Rattle.mac_header_spec.specs.declared.SequenceNumber.{SequenceNumber}
 use Rattle.mac_header_spec.specs.declared.Address.{Address}
 use Rattle.eb_record_spec.specs.Form.{isSequenced, sequenceNumber, isExtended, addressNumber, sequenceFrom, addressFrom, addressFits}
 use Rattle.eb_record_spec.proofs.FormLaws.{sequenceTest, sequence-tested, sequence-back, sequence-mark, sequence-number, addressTest, address-tested, address-back, address-kind, address-number}
-use Rattle.ack_record.specs.declared.Ack.{Ack}
-use Rattle.ack_record.specs.declared.AckForm.{AckForm}
-use Rattle.ack_record.specs.Record.{formOf, ackOf, isAck, FormsGiveTheRecord, RecordsGiveTheForm, FormsOfNoRecord}
+use Rattle.ack_record_spec.specs.declared.Ack.{Ack}
+use Rattle.ack_record_spec.specs.declared.AckForm.{AckForm}
+use Rattle.ack_record_spec.specs.Record.{formOf, ackOf, isAck, FormsGiveTheRecord, RecordsGiveTheForm, FormsOfNoRecord}
 
 pub form-back : (ack : Ack) → isAck (formOf ack) ≡ true → ackOf (formOf ack) ≡ ack
 unfolding isAck formOf ackOf

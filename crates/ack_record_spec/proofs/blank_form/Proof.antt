@@ -1,9 +1,9 @@
--- `ack_record::blank_form` meets its contract. Assumes nothing.
+-- `ack_record_spec::blank_form` meets its contract. Assumes nothing.
 use mathlib.Core.Path.{refl}
 use Rattle.eb_record_spec.specs.Form.{isSequenced, sequenceNumber, isExtended, addressNumber}
-use Rattle.ack_record.specs.Record.{blankAck, formOf}
-use Rattle.ack_record.proofs.blank_form.Statement.{statement}
-use Rattle.ack_record.proofs.blank_form.Tie as tie
+use Rattle.ack_record_spec.specs.Record.{blankAck, formOf}
+use Rattle.ack_record_spec.proofs.blank_form.Statement.{statement}
+use Rattle.ack_record_spec.proofs.blank_form.Tie as tie
 
 returns : tie.Need-returns
 unfolding formOf isSequenced sequenceNumber isExtended addressNumber blankAck

@@ -1,8 +1,8 @@
--- `ack_record::ack_of` meets its contract. Assumes nothing.
-use Rattle.ack_record.proofs.FormLaws.{forms}
+-- `ack_record_spec::ack_of` meets its contract. Assumes nothing.
+use Rattle.ack_record_spec.proofs.FormLaws.{forms}
 use borrow.Author.Needs.{needs}
-use Rattle.ack_record.proofs.ack_of.Statement.{statement}
-use Rattle.ack_record.proofs.ack_of.Tie as tie
+use Rattle.ack_record_spec.proofs.ack_of.Statement.{statement}
+use Rattle.ack_record_spec.proofs.ack_of.Tie as tie
 
 sequence-from-requires : tie.Need-sequence-from-requires
 sequence-from-requires c κs = search needs

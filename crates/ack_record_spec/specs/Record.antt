@@ -7,8 +7,8 @@ use lib.IntN.{pos}
 use Rattle.mac_header_spec.specs.declared.SequenceNumber.the-variants.{Absent}
 use Rattle.mac_header_spec.specs.declared.Address.the-variants.{Short}
 use Rattle.eb_record_spec.specs.Form.{isSequenced, sequenceNumber, isExtended, addressNumber, sequenceFrom, addressFrom, addressFits}
-use Rattle.ack_record.specs.declared.Ack.{Ack}
-use Rattle.ack_record.specs.declared.AckForm.{AckForm}
+use Rattle.ack_record_spec.specs.declared.Ack.{Ack}
+use Rattle.ack_record_spec.specs.declared.AckForm.{AckForm}
 
 -- the blank record: all zeros, both addresses short, no sequence number
 unfoldable pub blankAck : Ack

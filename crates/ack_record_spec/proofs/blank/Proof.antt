@@ -1,11 +1,11 @@
--- `ack_record::blank` meets its contract. Assumes nothing.
+-- `ack_record_spec::blank` meets its contract. Assumes nothing.
 use mathlib.Core.Path.{refl}
 use Rattle.octets_spec.specs.Choice.{ifOn}
 use Rattle.eb_record_spec.specs.Form.{isSequenced, sequenceNumber, isExtended, addressNumber, sequenceFrom, addressFrom}
-use Rattle.ack_record.specs.Record.{blankAck, formOf, ackOf}
+use Rattle.ack_record_spec.specs.Record.{blankAck, formOf, ackOf}
 use borrow.Author.Needs.{needs}
-use Rattle.ack_record.proofs.blank.Statement.{statement}
-use Rattle.ack_record.proofs.blank.Tie as tie
+use Rattle.ack_record_spec.proofs.blank.Statement.{statement}
+use Rattle.ack_record_spec.proofs.blank.Tie as tie
 
 blank-form-requires : tie.Need-blank-form-requires
 blank-form-requires c κs = search needs

@@ -2,7 +2,7 @@
 // and the blank record. The correction is wide enough to hold values outside its limits, so that a record that breaks them can be given and
 // refused.
 ghost use mathlib.Core.Path.{_≡_};
-ghost use Rattle.ack_record.specs.Record.{blankAck, formOf, ackOf, isAck, FormsGiveTheRecord, RecordsGiveTheForm, FormsOfNoRecord};
+ghost use Rattle.ack_record_spec.specs.Record.{blankAck, formOf, ackOf, isAck, FormsGiveTheRecord, RecordsGiveTheForm, FormsOfNoRecord};
 use mac_header_spec::Address;
 use mac_header_spec::SequenceNumber;
 
