@@ -47,6 +47,15 @@ module _ (most more at a b : ℕ) (s t u xs ys : List ℕ) (first : PartPut most
         offset = λ wide. omega (arith, second .offset (left wide), first .offset (room wide), length-append xs ys);
       }
 
+-- a part of at most so many bytes is one of at most more
+pub wider : (most more at r : ℕ) (s t xs : List ℕ) → most ≤ more → PartPut most s at xs t r → PartPut more s at xs t r
+wider most more at r s t xs le put = record {
+  short = omega (arith, put .short, le);
+  size = put .size;
+  bytes = λ wide. put .bytes (omega (arith, wide, le));
+  offset = λ wide. put .offset (omega (arith, wide, le));
+}
+
 module _ (s t u : List ℕ) (at a b : ℕ) where
   pub field-put : (name : List ℕ) (n : ℕ) → PartPut (length name) s at name t a → PartPut 20 t a (decimal n) u b → PartPut (length name + 20) s at (field name n) u b
   unfolding field
