@@ -11,6 +11,10 @@ use libc::STDOUT_FILENO;
 pub const MOST_READ: usize = 126;
 // The count where no frame came in, as where a read failed.
 const NO_FRAME: isize = -1;
+// What printing answers where the line is out.
+const PRINTED: i32 = 0;
+// What printing answers where a write failed.
+const NOT_PRINTED: i32 = -1;
 
 // Tells something on standard error.
 fn tell(text: &[u8]) {
@@ -150,7 +154,7 @@ pub fn print(program: &[u8], line: &[u8]) -> i32
     // What a disk tells only when a file is closed is a failed write too.
     if !io::write_all(STDOUT_FILENO, line) || libc::close(STDOUT_FILENO) < 0 {
         fail(program, b"standard output");
-        return -1;
+        return NOT_PRINTED;
     }
-    0
+    PRINTED
 }

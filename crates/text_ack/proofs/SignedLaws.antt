@@ -1,23 +1,17 @@
--- The laws of a signed number's text, in the shape in which the code meets them. A signed number is held by its bits. Assumes nothing.
-use Prim.Native.Nat.{ℕ, suc, _<_}
-use mathlib.Core.Path.{_≡_, refl, sym, _∙_, ap, subst}
-use mathlib.Core.Bool.{Bool, true, false}
-use mathlib.Core.List.{List}
+-- The laws of a number without its sign, in the shape in which the code meets them: a signed number is held by its bits. Assumes nothing.
+use Prim.Native.Nat.{suc, _<_}
+use mathlib.Core.Path.{_≡_, sym, _∙_, ap, subst}
+use mathlib.Core.Bool.{true, false}
 use native.Mathlib.Nat.{zero-add}
 use native.Mathlib.Omega.{arith}
-use lib.Dec.{T, ltb, lit≤}
+use lib.Dec.{T, ltb}
 use lib.IntN.{ℤ, pos, negsuc, _-ℤ_, natAbs}
 use lib.Signed.{ltZ, nonNeg}
 use mir.Syntax.{Width, w32, w64}
 use mir.Val.{bits, Fits, SFits, toZ, ofZ}
 use mir.Facts.{sfits-widen, fits-natAbs, toZ-ofZ}
 use borrow.Author.Tests.{ltb-true}
-use Rattle.text_put_spec.specs.Text.{decimal}
-use Rattle.text_put_spec.specs.Part.{PartPut}
-use Rattle.text_put_spec.proofs.PartLaws.{row, wider}
-use Rattle.text_ack_spec.specs.AckLine.{minus, signed}
 
--- ---- a number without its sign
 is-below : (z : ℤ) → ltZ z (pos 0) ≡ true → pos 0 -ℤ z ≡ pos (natAbs z)
 is-below (pos n) h = absurd (omega (arith, ltb-true n 0 h))
 is-below (negsuc n) h = ap pos (zero-add (suc n))
@@ -63,27 +57,3 @@ module _ (x : ℤ) (fits : SFits w32 x) where
     more-casts = (is-above wide above, subst (Fits w64) (sym more-size) (size-fits tt))
 
 pub ruleset sizes = (wide-fits, less-fits, less-size, more-size)
-
--- ---- the text
-module _ (at r size : ℕ) (s t : List ℕ) where
-  below-text : (z : ℤ) (a : ℕ) (u : List ℕ) → ltZ z (pos 0) ≡ true → size ≡ natAbs z → PartPut 1 s at minus u a → PartPut 20 u a (decimal size) t r → PartPut 21 s at (signed z) t r
-  unfolding signed
-  below-text (pos n) a u h e first second = absurd (omega (arith, ltb-true n 0 h))
-  below-text (negsuc n) a u h e first second = row 1 20 at a r s u t minus _ first (rw e at second)
-
-  above-text : (z : ℤ) → ltZ z (pos 0) ≡ false → size ≡ natAbs z → PartPut 20 s at (decimal size) t r → PartPut 21 s at (signed z) t r
-  unfolding signed
-  above-text (pos n) h e put = wider 20 21 at r s t _ (lit≤ tt) (rw e at put)
-  above-text (negsuc n) h e put = absurd (subst T h tt)
-
-  module _ (negative : Bool) (x y z : ℤ) (sign-is : negative ≡ ltZ x (pos 0)) (x-is : x ≡ z) (size-is : size ≡ natAbs y) (y-is : y ≡ z) where
-    sign : ltZ z (pos 0) ≡ negative
-    sign = sym (sign-is ∙ ap (λ (v : ℤ). ltZ v (pos 0)) x-is)
-
-    pub signed-below : negative ≡ true → (a : ℕ) (u : List ℕ) → PartPut 1 s at minus u a → PartPut 20 u a (decimal size) t r → PartPut 21 s at (signed z) t r
-    signed-below h a u = below-text z a u (sign ∙ h) (size-is ∙ ap natAbs y-is)
-
-    pub signed-above : negative ≡ false → PartPut 20 s at (decimal size) t r → PartPut 21 s at (signed z) t r
-    signed-above h = above-text z (sign ∙ h) (size-is ∙ ap natAbs y-is)
-
-pub ruleset signs = (signed-below, signed-above)

@@ -1,12 +1,15 @@
 -- The laws of the line's parts, in the shape in which the code meets them: each way of a choice, parts in a row, and the whole line. Assumes
 -- nothing.
-use Prim.Native.Nat.{ℕ, suc, _+_, _≤_}
-use mathlib.Core.Path.{_≡_, refl}
+use Prim.Native.Nat.{ℕ, _+_, _≤_}
+use mathlib.Core.Path.{_≡_, refl, sym, _∙_, ap, subst}
 use mathlib.Core.Bool.{Bool, true, false}
 use mathlib.Core.List.{List, _++_}
-use lib.Dec.{lit≤}
-use lib.IntN.{ℤ, natAbs}
+use native.Mathlib.Omega.{arith}
+use lib.Dec.{T, lit≤}
+use lib.IntN.{ℤ, pos, negsuc, natAbs}
 use lib.ListN.{length}
+use lib.Signed.{ltZ}
+use borrow.Author.Tests.{ltb-true}
 use Rattle.octets_spec.specs.Choice.{ifOn}
 use Rattle.octets_spec.proofs.ChoiceLaws.{if-eq, if-ne}
 use Rattle.mac_header_spec.specs.declared.Address.{Address}
@@ -47,6 +50,28 @@ module _ (s t : List ℕ) (at r : ℕ) where
   unfolding acknowledgedText ifOn
   acknowledged-yes nack e put = rw e put
 
+-- ---- a signed number, by its sign
+module _ (at r size : ℕ) (s t : List ℕ) where
+  below-text : (z : ℤ) (a : ℕ) (u : List ℕ) → ltZ z (pos 0) ≡ true → size ≡ natAbs z → PartPut 1 s at minus u a → PartPut 20 u a (decimal size) t r → PartPut 21 s at (signed z) t r
+  unfolding signed
+  below-text (pos n) a u h e first second = absurd (omega (arith, ltb-true n 0 h))
+  below-text (negsuc n) a u h e first second = row 1 20 at a r s u t minus _ first (rw e at second)
+
+  above-text : (z : ℤ) → ltZ z (pos 0) ≡ false → size ≡ natAbs z → PartPut 20 s at (decimal size) t r → PartPut 21 s at (signed z) t r
+  unfolding signed
+  above-text (pos n) h e put = wider 20 21 at r s t _ (lit≤ tt) (rw e at put)
+  above-text (negsuc n) h e put = absurd (subst T h tt)
+
+  module _ (negative : Bool) (x y z : ℤ) (sign-is : negative ≡ ltZ x (pos 0)) (x-is : x ≡ z) (size-is : size ≡ natAbs y) (y-is : y ≡ z) where
+    sign : ltZ z (pos 0) ≡ negative
+    sign = sym (sign-is ∙ ap (λ (v : ℤ). ltZ v (pos 0)) x-is)
+
+    pub signed-below : negative ≡ true → (a : ℕ) (u : List ℕ) → PartPut 1 s at minus u a → PartPut 20 u a (decimal size) t r → PartPut 21 s at (signed z) t r
+    signed-below h a u = below-text z a u (sign ∙ h) (size-is ∙ ap natAbs y-is)
+
+    pub signed-above : negative ≡ false → PartPut 20 s at (decimal size) t r → PartPut 21 s at (signed z) t r
+    signed-above h = above-text z (sign ∙ h) (size-is ∙ ap natAbs y-is)
+
 -- ---- parts in a row
 module _ (s t u : List ℕ) (at a b : ℕ) where
   pub address-put : (name : List ℕ) (address : Address) → PartPut (length name) s at name t a → PartPut 29 t a (kindText address) u b → PartPut (length name + 29) s at (addressText name address) u b
@@ -84,4 +109,4 @@ refused-room = lit≤ tt
 pub accepted-room : 179 ≤ 192
 accepted-room = lit≤ tt
 
-pub ruleset ackLines = (sequence-absent, sequence-number, kind-short, kind-extended, acknowledged-no, acknowledged-yes, address-put, correction-put, addresses-put, ack-put, line-refused, line-accepted, refused-room, accepted-room)
+pub ruleset ackLines = (signed-below, signed-above, sequence-absent, sequence-number, kind-short, kind-extended, acknowledged-no, acknowledged-yes, address-put, correction-put, addresses-put, ack-put, line-refused, line-accepted, refused-room, accepted-room)

@@ -1,5 +1,5 @@
 -- `text_ack::put_signed` meets its contract. Assumes nothing.
-use Rattle.text_ack.proofs.SignedLaws.{signs}
+use Rattle.text_ack_spec.proofs.AckLineLaws.{ackLines}
 use borrow.Author.Needs.{needs}
 use Rattle.text_ack.proofs.put_signed.Statement.{statement}
 use Rattle.text_ack.proofs.put_signed.Tie as tie
@@ -23,7 +23,7 @@ same-length : tie.Need-same-length
 same-length c = search needs
 
 returns : tie.Need-returns
-returns c = search (needs, signs)
+returns c = search (needs, ackLines)
 
 decimal-requires-2 : tie.Need-decimal-requires-2
 decimal-requires-2 c κs = search needs
@@ -32,7 +32,7 @@ same-length-2 : tie.Need-same-length-2
 same-length-2 c = search needs
 
 returns-2 : tie.Need-returns-2
-returns-2 c = search (needs, signs)
+returns-2 c = search (needs, ackLines)
 
 pub put-signed-spec : {M : Type 1} → statement M
 put-signed-spec =
