@@ -18,6 +18,7 @@ pub mod log;
 pub mod measure;
 pub mod metric;
 pub mod parts;
+pub mod program;
 pub mod random;
 pub mod records;
 pub mod refusal;
