@@ -27,6 +27,7 @@ pub mod mac;
 pub mod measure;
 pub mod metric;
 pub mod parts;
+pub mod program;
 pub mod random;
 pub mod records;
 pub mod refusal;

@@ -1,15 +1,12 @@
 -- The line of text that a reading is printed as, as bytes in ASCII (docs/RULES.md, The printed line). Assumes nothing.
-use Prim.Native.Nat.{ℕ, _+_}
-use mathlib.Core.Path.{_≡_}
+use Prim.Native.Nat.{ℕ}
 use mathlib.Core.List.{List, [], _∷_, _++_}
-use lib.ListN.{length, drop}
-use Rattle.octets_spec.specs.Choice.{ifLt, ifEq}
-use Rattle.octets_spec.specs.Number.{stored}
+use Rattle.octets_spec.specs.Choice.{ifEq}
 use Rattle.refusal.specs.Refusal.{done}
 use Rattle.eb_record_spec.specs.declared.Beacon.{Beacon}
 use Rattle.eb_read_spec.specs.declared.ReadAnswer.{ReadAnswer}
 use Rattle.eb_read_spec.specs.Read.{readFrame}
-use Rattle.text_put_spec.specs.Text.{decimal}
+use Rattle.text_put_spec.specs.Part.{newline, field, refusedText, lineIn}
 
 -- `asn `
 abbrev pub asnName : List ℕ
@@ -27,18 +24,6 @@ sizeName = 32 ∷ 115 ∷ 105 ∷ 122 ∷ 101 ∷ 32 ∷ []
 abbrev pub linksName : List ℕ
 linksName = 32 ∷ 108 ∷ 105 ∷ 110 ∷ 107 ∷ 115 ∷ 32 ∷ []
 
--- `refused `
-abbrev pub refusedName : List ℕ
-refusedName = 114 ∷ 101 ∷ 102 ∷ 117 ∷ 115 ∷ 101 ∷ 100 ∷ 32 ∷ []
-
--- the end of a line
-abbrev pub newline : List ℕ
-newline = 10 ∷ []
-
--- a number behind its name
-unfoldable pub field : List ℕ → ℕ → List ℕ
-field name number = name ++ decimal number
-
 -- `asn ` and ` metric `
 unfoldable pub synchronizationText : ℕ → ℕ → List ℕ
 synchronizationText asn metric = field asnName asn ++ field metricName metric
@@ -51,24 +36,10 @@ slotframeText size links = field sizeName size ++ (field linksName links ++ newl
 unfoldable pub acceptedText : Beacon → List ℕ
 acceptedText beacon = synchronizationText (beacon .synchronization .asn) (beacon .synchronization .metric) ++ slotframeText (beacon .slotframe .size) (beacon .slotframe .count)
 
--- the number of a refusal: `refused 2`
-unfoldable pub refusedText : ℕ → List ℕ
-refusedText number = field refusedName number ++ newline
-
 -- the line of a reading, with its newline
 unfoldable pub lineOf : ReadAnswer → List ℕ
 lineOf answer = ifEq (answer .number) done (acceptedText (answer .beacon)) (refusedText (answer .number))
 
 -- what a frame puts into a buffer of some length: its line, and nothing into a buffer of under 128 bytes
-unfoldable pub lineFor : ℕ → List ℕ → List ℕ
-lineFor room frame = ifLt room 128 [] (lineOf (readFrame frame))
-
--- a buffer that begins with a text, and is behind it as it was
-unfoldable pub startsWith : List ℕ → List ℕ → List ℕ
-startsWith text buffer = text ++ drop (length text) buffer
-
--- a part of the line was put into a buffer from an offset on: the buffer then, and the offset behind the part
-pub record PartPut (buffer : List ℕ) (at : ℕ) (part : List ℕ) (after : List ℕ) (next : ℕ) : Type 0 where
-  pub bytes : after ≡ stored buffer at part
-  pub size : length after ≡ length buffer
-  pub offset : next ≡ at + length part
+abbrev pub lineFor : ℕ → List ℕ → List ℕ
+lineFor room frame = lineIn 128 room (lineOf (readFrame frame))

@@ -1,10 +1,12 @@
-// Text, decimal and hex put into a lent buffer from an offset on. Each function answers the offset behind what it put. What does not fit is not
-// put at all: the buffer is then as it was, and the answer is the offset itself.
+// Text, decimal and hex put into a lent buffer from an offset on, and parts of a line, which are made of these. Each function answers the
+// offset behind what it put. A text or a number that does not fit is not put at all: the buffer is then as it was, and the answer is the
+// offset itself.
 ghost use mathlib.Core.Path.{_≡_};
 ghost use Prim.Native.Nat.{_+_, _≤_};
 ghost use lib.ListN.{length};
 ghost use Rattle.octets_spec.specs.Number.{stored};
 ghost use Rattle.text_put_spec.specs.Text.{decimal as Text·decimal, hexadecimal, fitting};
+ghost use Rattle.text_put_spec.specs.Part.{field as Part·field, refusedText, PartPut};
 
 // Puts a text that fits, byte by byte.
 fn store(buffer: &mut [u8], at: usize, text: &[u8]) -> usize
@@ -23,6 +25,7 @@ fn store(buffer: &mut [u8], at: usize, text: &[u8]) -> usize
 pub fn text(buffer: &mut [u8], at: usize, text: &[u8]) -> usize
     ensures answer { λ r. ⌜ r ≡ at + length (fitting (length (now (buffer .entry))) at (now (text .entry))) ⌝ }
     ensures buffer { λ r. ⌜ now (buffer .exit) ≡ stored (now (buffer .entry)) at (fitting (length (now (buffer .entry))) at (now (text .entry))) ⌝ }
+    ensures part { λ r. ⌜ PartPut (length (now (text .entry))) (now (buffer .entry)) at (now (text .entry)) (now (buffer .exit)) r ⌝ }
 {
     if buffer.len() < text.len() {
         return at;
@@ -37,6 +40,7 @@ pub fn text(buffer: &mut [u8], at: usize, text: &[u8]) -> usize
 pub fn decimal(buffer: &mut [u8], at: usize, value: u64) -> usize
     ensures answer { λ r. ⌜ r ≡ at + length (fitting (length (now (buffer .entry))) at (Text·decimal value)) ⌝ }
     ensures buffer { λ r. ⌜ now (buffer .exit) ≡ stored (now (buffer .entry)) at (fitting (length (now (buffer .entry))) at (Text·decimal value)) ⌝ }
+    ensures part { λ r. ⌜ PartPut 20 (now (buffer .entry)) at (Text·decimal value) (now (buffer .exit)) r ⌝ }
 {
     let mut digits = [0u8; 20];
     let count = io::decimal(value, &mut digits);
@@ -51,4 +55,20 @@ pub fn hex(buffer: &mut [u8], at: usize, value: u64, width: usize) -> usize
     let mut space = [0u8; 16];
     let count = io::hex(value, width, &mut space);
     text(buffer, at, &space[..count])
+}
+
+// Puts a number behind its name. Where the longest number has no room, the name may be put alone.
+pub fn field(buffer: &mut [u8], at: usize, name: &[u8], value: u64) -> usize
+    ensures part { λ r. ⌜ PartPut (length (now (name .entry)) + 20) (now (buffer .entry)) at (Part·field (now (name .entry)) value) (now (buffer .exit)) r ⌝ }
+{
+    let next = text(buffer, at, name);
+    decimal(buffer, next, value)
+}
+
+// Puts the line of a refusal. Where the longest number has no room, it may be put in part.
+pub fn refused(buffer: &mut [u8], at: usize, number: u8) -> usize
+    ensures part { λ r. ⌜ PartPut 29 (now (buffer .entry)) at (refusedText number) (now (buffer .exit)) r ⌝ }
+{
+    let next = field(buffer, at, b"refused ", number as u64);
+    text(buffer, next, b"\n")
 }

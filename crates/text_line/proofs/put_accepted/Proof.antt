@@ -1,5 +1,5 @@
 -- `text_line::put_accepted` meets its contract. Assumes nothing.
-use Rattle.text_line_spec.proofs.LineLaws.{lines}
+use Rattle.text_line_spec.proofs.LineLaws.{beaconLines}
 use borrow.Author.Needs.{needs}
 use Rattle.text_line.proofs.put_accepted.Statement.{statement}
 use Rattle.text_line.proofs.put_accepted.Tie as tie
@@ -14,7 +14,7 @@ same-length : tie.Need-same-length
 same-length c = search needs
 
 returns : tie.Need-returns
-returns c = search (needs, lines)
+returns c = search (needs, beaconLines)
 
 pub put-accepted-spec : {M : Type 1} → statement M
 put-accepted-spec =

@@ -1,29 +1,28 @@
 -- `text_line::put_synchronization` meets its contract. Assumes nothing.
-use Rattle.text_line_spec.proofs.LineLaws.{lines}
+use Rattle.text_line_spec.proofs.LineLaws.{beaconLines}
 use borrow.Author.Needs.{needs}
 use Rattle.text_line.proofs.put_synchronization.Statement.{statement}
 use Rattle.text_line.proofs.put_synchronization.Tie as tie
 
-slice-aggregate-put-field : tie.Need-slice-aggregate-put-field
-slice-aggregate-put-field c = search needs
+slice-aggregate-field : tie.Need-slice-aggregate-field
+slice-aggregate-field c = search needs
 
-put-field-requires : tie.Need-put-field-requires
-put-field-requires c κs = search needs
+field-requires : tie.Need-field-requires
+field-requires c κs = search needs
 
-slice-aggregate-put-field-2 : tie.Need-slice-aggregate-put-field-2
-slice-aggregate-put-field-2 c = search needs
+slice-aggregate-field-2 : tie.Need-slice-aggregate-field-2
+slice-aggregate-field-2 c = search needs
 
-put-field-requires-2 : tie.Need-put-field-requires-2
-put-field-requires-2 c κs = search needs
+field-requires-2 : tie.Need-field-requires-2
+field-requires-2 c κs = search needs
 
 same-length : tie.Need-same-length
 same-length c = search needs
 
 returns : tie.Need-returns
-returns c = search (needs, lines)
+returns c = search (needs, beaconLines)
 
 pub put-synchronization-spec : {M : Type 1} → statement M
 put-synchronization-spec =
     tie.close
-    (tie.spec slice-aggregate-put-field put-field-requires slice-aggregate-put-field-2 put-field-requires-2
-    same-length returns)
+    (tie.spec slice-aggregate-field field-requires slice-aggregate-field-2 field-requires-2 same-length returns)

@@ -1,13 +1,14 @@
--- `bench::read_frame` is safe and ends. Assumes nothing.
-use Prim.Native.Nat.{_-_, _≤_}
+-- `frame_program::read_frame` meets its contract. Assumes nothing.
+use Prim.Native.Nat.{_-_, _<_, _≤_}
 use mathlib.Core.Path.{_≡_}
 use lib.ListN.{length as len}
 use borrow.Author.Needs.{needs}
-use Rattle.bench.proofs.read_frame.Statement.{statement}
-use Rattle.bench.proofs.read_frame.Tie as tie
+use Rattle.frame_program.proofs.CountLaws.{counted}
+use Rattle.frame_program.proofs.read_frame.Statement.{statement}
+use Rattle.frame_program.proofs.read_frame.Tie as tie
 
 abbrev Inv-loop : tie.InvT-loop
-Inv-loop fd frame₀ length₀ frame length = (length ≤ len frame) × (len frame ≡ len frame₀)
+Inv-loop fd frame₀ length₀ frame length = (length ≤ len frame₀) × (length < 9223372036854775808) × (len frame ≡ len frame₀)
 
 abbrev μ-loop : tie.MeasureT-loop
 μ-loop fd frame₀ length₀ frame length = len frame - length
@@ -31,7 +32,7 @@ same-length-2 : tie.Need-same-length-2 Inv-loop μ-loop
 same-length-2 c = search needs
 
 returns-2 : tie.Need-returns-2 Inv-loop μ-loop
-returns-2 c = search needs
+returns-2 c = search (needs, counted)
 
 add-length : tie.Need-add-length Inv-loop μ-loop
 add-length c = search needs
@@ -49,7 +50,7 @@ same-length-3 : tie.Need-same-length-3 Inv-loop μ-loop
 same-length-3 c = search needs
 
 returns-3 : tie.Need-returns-3 Inv-loop μ-loop
-returns-3 c = search needs
+returns-3 c = search (needs, counted)
 
 pub read-frame-spec : {M : Type 1} → statement M
 read-frame-spec =
