@@ -74,6 +74,17 @@ fn published_timings(group: u8) {
     template(answer.beacon.timeslot.id, timings);
 }
 
+// RFC 8180, appendix A.3: the element of the correction, whose two bytes of content the RFC leaves open, behind the fields of the
+// acknowledgement of 12 bytes in docs/RULES.md.
+fn published_ack(low: u8, high: u8) {
+    let mut s = *b"\x42\xAB\x34\x12\x07\x00\x01\x00\x02\x0F\x00\x00";
+    s[10] = low;
+    s[11] = high;
+    let mut buffer = [0u8; 192];
+    let end = text_ack::ack_line(&s, &mut buffer);
+    io::write_all(libc::STDOUT_FILENO, &buffer[..end]);
+}
+
 fn main() {
     io::write_all(libc::STDOUT_FILENO, b"asn, offset: channel\n");
     channel(11, 0);
@@ -104,4 +115,14 @@ fn main() {
     );
     published_timings(26);
     published_timings(50);
+    io::write_all(
+        libc::STDOUT_FILENO,
+        b"RFC 8180 A.3 with contents 0, the last positive and the first negative correction, -1, and bits 12 to 15\n",
+    );
+    published_ack(0x00, 0x00);
+    published_ack(0xFF, 0x07);
+    published_ack(0x00, 0x08);
+    published_ack(0xFF, 0x0F);
+    published_ack(0x01, 0x70);
+    published_ack(0x01, 0x80);
 }
