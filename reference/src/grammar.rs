@@ -14,8 +14,8 @@ use crate::random::Random;
 pub const CONSTRUCTORS: [&str; 25] = [
     "numbered",
     "suppressed",
-    "short-source",
-    "extended-source",
+    "short-address",
+    "extended-address",
     "fixed-fields",
     "header-end",
     "header-element",
@@ -133,11 +133,11 @@ impl Maker<'_> {
         fields.extend([0xFF, 0xFF]);
         match beacon.source {
             Address::Short(number) => {
-                self.by("short-source");
+                self.by("short-address");
                 fields.extend(number.to_le_bytes());
             }
             Address::Extended(number) => {
-                self.by("extended-source");
+                self.by("extended-address");
                 fields.extend(number.to_le_bytes());
             }
         }

@@ -1,24 +1,23 @@
 -- The grammar and reading agree: what reading accepts is of the grammar, and a frame of the grammar is accepted, with the same record. Assumes nothing.
-use Prim.Native.Nat.{ℕ, suc, _+_, _-_, _*_, _/_, _%_, _^_, _<_, _≤_}
+use Prim.Native.Nat.{ℕ, _+_, _-_, _%_, _<_}
 use mathlib.Core.Path.{_≡_, refl, sym, _∙_, ap, subst}
 use mathlib.Core.Bool.{Bool}
 use mathlib.Core.List.{List, [], _∷_, _++_}
 use mathlib.Core.Logic.{⊎-elim}
 use native.Mathlib.Omega.{arith}
 use borrow.Author.Tests.{lt-ltb}
-use lib.IntN.{ℤ, pos, negsuc, _-ℤ_}
+use lib.IntN.{ℤ, pos, negsuc}
 use lib.ListN.{length}
-use Rattle.octets_spec.specs.Choice.{ifLt}
 use Rattle.octets_spec.specs.Number.{leAt}
 use Rattle.octets_spec.proofs.ChoiceLaws.{if-lt, if-ge, by-lt}
-use Rattle.mac_header_spec.specs.Fields.{macHeaderOf, sequenceOf, addressOf}
+use Rattle.mac_header_spec.specs.Fields.{macHeaderOf}
 use Rattle.ie_walk_spec.specs.Walk.{headerList}
 use Rattle.eb_read_spec.specs.Claims.{Bytes}
 use Rattle.eb_read_spec.proofs.Each.{each-eq}
-use Rattle.eb_grammar_spec.specs.Row.{le, bits}
+use Rattle.eb_grammar_spec.specs.Row.{bits}
 use Rattle.eb_grammar_spec.specs.Grammar.{contents}
 use Rattle.eb_grammar_spec.proofs.Stands.{Stands}
-use Rattle.eb_grammar_spec.proofs.Slices.{part, part-at, le-part, le-stands}
+use Rattle.eb_grammar_spec.proofs.Slices.{part, le-part, le-stands}
 use Rattle.ack_record_spec.specs.declared.Ack.{Ack}
 use Rattle.ack_read_spec.specs.Policy.{macHeaderFault}
 use Rattle.ack_read_spec.specs.Read.{foundIn, correctionOf, nackOf, ackFrom, foundOf, ackNumber, readAck}

@@ -6,7 +6,6 @@ use mathlib.Core.Logic.{_⊎_, inl, inr}
 use native.Mathlib.Omega.{arith}
 use native.Mathlib.Nat.{not-suc-le-zero}
 use lib.ListN.{length, getD, drop, length-append}
-use Rattle.octets_spec.specs.Choice.{ifEq}
 use Rattle.octets_spec.proofs.ChoiceLaws.{if-eq, if-ne, by-eq, was-eq, was-ne}
 use Rattle.refusal.specs.Refusal.{done, shape, missingOrTwice}
 use Rattle.ie_step_spec.specs.Header.{headerAt}

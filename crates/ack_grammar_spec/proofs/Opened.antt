@@ -1,5 +1,5 @@
 -- What stands before the elements: of the grammar exactly when the checks of the MAC header pass, and read as what it says. Assumes nothing.
-use Prim.Native.Nat.{ℕ, zero, suc, _+_, _-_, _/_, _%_, _<_, _≤_}
+use Prim.Native.Nat.{ℕ, _+_, _-_, _/_, _%_, _<_, _≤_}
 use mathlib.Core.Path.{_≡_, refl, sym, _∙_, ap, subst}
 use mathlib.Core.List.{List, [], _∷_, _++_, append-assoc}
 use native.Mathlib.Omega.{arith}
@@ -17,7 +17,6 @@ use Rattle.mac_header_spec.specs.declared.Address.{Address}
 use Rattle.mac_header_spec.proofs.ControlLaws.{placed, placed-is}
 use Rattle.eb_read_spec.specs.Claims.{Bytes}
 use Rattle.eb_grammar_spec.specs.Row.{le, bits}
-use Rattle.eb_grammar_spec.specs.Grammar.{SequenceBytes, AddressBytes}
 use Rattle.eb_grammar_spec.proofs.Stands.{Stands, stands-whole, stands-first, stands-rest}
 use Rattle.eb_grammar_spec.proofs.Slices.{part, part-at, part-append, part-stands, le-stands, part-element}
 use Rattle.eb_grammar_spec.proofs.Opened.{numberAt, sequence-reads, address-reads, two-bytes, sequence-some, address-some}

@@ -1,11 +1,9 @@
 -- The grammar and reading agree on every list of bytes, and what follows from that (docs/RULES.md, Acknowledgements). Assumes nothing.
 use Prim.Native.Nat.{ℕ, _<_, _≤_}
 use mathlib.Core.Path.{_≡_}
-use mathlib.Core.List.{List, [], _∷_, _++_}
+use mathlib.Core.List.{List, _∷_, _++_}
 use lib.ListN.{length}
 use Rattle.refusal.specs.Refusal.{done}
-use Rattle.mac_header_spec.specs.declared.SequenceNumber.{SequenceNumber}
-use Rattle.mac_header_spec.specs.declared.Address.{Address}
 use Rattle.eb_read_spec.specs.Claims.{Bytes}
 use Rattle.eb_grammar_spec.specs.Row.{bits}
 use Rattle.eb_grammar_spec.specs.Grammar.{HeaderElements, contents}
@@ -15,7 +13,7 @@ use Rattle.ack_record_spec.specs.declared.AckForm.{AckForm}
 use Rattle.ack_record_spec.specs.Record.{formOf}
 use Rattle.ack_read_spec.specs.Read.{readAck}
 use Rattle.ack_read_spec.specs.Witnesses.{shortest, shortestRecord}
-use Rattle.ack_grammar_spec.specs.Grammar.{FixedFields, elementsOf, ListEnd, Accepts}
+use Rattle.ack_grammar_spec.specs.Grammar.{elementsOf, ListEnd, Accepts}
 
 -- what reading accepts is a frame of the grammar, and says the record that reading gives
 abbrev pub Sound : Type 0

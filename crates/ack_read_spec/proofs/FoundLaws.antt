@@ -2,7 +2,7 @@
 -- that was taken as a variable. Assumes nothing.
 use Prim.Native.Nat.{ℕ, suc, _-_, _<_, _≤_}
 use mathlib.Core.Path.{_≡_, refl, sym, _∙_, ap}
-use mathlib.Core.List.{List, [], _∷_}
+use mathlib.Core.List.{List, []}
 use native.Mathlib.Omega.{arith}
 use Rattle.octets_spec.specs.Choice.{ifEq}
 use Rattle.octets_spec.proofs.ChoiceLaws.{if-eq, if-ne, choices}

@@ -1,15 +1,14 @@
 -- What each number of the checks before the elements says of a frame, one row for each way out of them. Assumes nothing.
 use Prim.Native.Nat.{ℕ, _<_, _≤_}
-use mathlib.Core.Path.{_≡_, refl, sym, subst}
+use mathlib.Core.Path.{_≡_, subst}
 use mathlib.Core.List.{List}
 use native.Mathlib.Nat.{lt-irrefl, lt-of-lt-of-le}
 use lib.ListN.{length}
-use Rattle.octets_spec.proofs.ChoiceLaws.{if-eq, if-ne}
 use Rattle.mac_header_spec.specs.Fields.{macHeaderOf}
 use Rattle.mac_header_spec.specs.declared.Control.{Control}
 use Rattle.eb_read_spec.specs.Claims.{HasControl}
 use Rattle.eb_read_spec.proofs.Each.{each-lt, each-eq}
-use Rattle.ack_read_spec.specs.Policy.{compressionOf, addressingFault, formFault, policyFault, macHeaderFault}
+use Rattle.ack_read_spec.specs.Policy.{addressingFault, formFault, policyFault, macHeaderFault}
 use Rattle.ack_read_spec.specs.Claims.{IsAck, IsAddressed}
 
 module _ (s : List ℕ) where

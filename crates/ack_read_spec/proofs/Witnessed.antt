@@ -1,5 +1,5 @@
 -- Frames at which the checker computes what reading gives. Assumes nothing.
-use mathlib.Core.Path.{_≡_, refl}
+use mathlib.Core.Path.{refl}
 use Rattle.octets_spec.specs.Choice.{ifOn, ifLt, ifEq}
 use Rattle.octets_spec.specs.Number.{leAt}
 use Rattle.mac_header_spec.specs.Control.{controlOf}

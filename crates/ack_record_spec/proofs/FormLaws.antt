@@ -1,12 +1,12 @@
 -- The form of a record and the record of a form are inverses of each other, and the laws of both in the shape in which the code meets them.
 -- Assumes nothing.
 use mathlib.Core.Path.{_≡_, refl}
-use mathlib.Core.Bool.{Bool, true, _&&_, _||_, and-eq-true-iff}
+use mathlib.Core.Bool.{true, _&&_, _||_, and-eq-true-iff}
 use lib.Dec.{ltb, eqb}
 use lib.IntN.{ℤ}
 use Rattle.mac_header_spec.specs.declared.SequenceNumber.{SequenceNumber}
 use Rattle.mac_header_spec.specs.declared.Address.{Address}
-use Rattle.eb_record_spec.specs.Form.{isSequenced, sequenceNumber, isExtended, addressNumber, sequenceFrom, addressFrom, addressFits}
+use Rattle.eb_record_spec.specs.Form.{isSequenced, sequenceNumber, isExtended, addressNumber, sequenceFrom, addressFrom}
 use Rattle.eb_record_spec.proofs.FormLaws.{sequenceTest, sequence-tested, sequence-back, sequence-mark, sequence-number, addressTest, address-tested, address-back, address-kind, address-number}
 use Rattle.ack_record_spec.specs.declared.Ack.{Ack}
 use Rattle.ack_record_spec.specs.declared.AckForm.{AckForm}

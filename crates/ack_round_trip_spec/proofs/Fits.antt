@@ -1,12 +1,12 @@
 -- What an acknowledgement of the grammar says is within the limits of writing, and needs no more bytes than it was said in. Assumes nothing.
-use Prim.Native.Nat.{ℕ, suc, _+_, _-_, _*_, _%_, _^_, _<_, _≤_}
+use Prim.Native.Nat.{ℕ, suc, _+_, _-_, _%_, _^_, _<_, _≤_}
 use mathlib.Core.Path.{_≡_, refl, sym, _∙_, ap}
 use mathlib.Core.Bool.{Bool, true}
 use mathlib.Core.List.{List, [], _∷_, _++_}
 use native.Mathlib.Omega.{arith}
 use borrow.Author.Tests.{le-leb, lt-ltb}
 use lib.Dec.{ltb}
-use lib.IntN.{ℤ, pos, negsuc, _-ℤ_}
+use lib.IntN.{ℤ, pos, _-ℤ_}
 use lib.ListN.{length, getD, length-append}
 use Rattle.octets_spec.proofs.ChoiceLaws.{by-lt, by-eq, if-lt, if-ge}
 use Rattle.mac_header_spec.specs.declared.SequenceNumber.{SequenceNumber}

@@ -1,14 +1,14 @@
 -- A written acknowledgement is of the grammar, by how it is built: no offset and no walk comes into it. Assumes nothing.
-use Prim.Native.Nat.{ℕ, suc, _+_, _-_, _*_, _/_, _%_, _^_, _<_, _≤_}
+use Prim.Native.Nat.{ℕ, suc, _+_, _-_, _/_, _%_, _^_, _<_, _≤_}
 use mathlib.Core.Path.{_≡_, refl, sym, _∙_, ap, subst}
 use mathlib.Core.Bool.{Bool, true, false, and-false, and-eq-true-iff}
 use mathlib.Core.List.{List, [], _∷_, _++_, append-nil}
 use native.Mathlib.Omega.{arith}
 use borrow.Author.Tests.{lt-ltb, leb-true, ltb-true}
 use lib.Dec.{leb, ltb, eqb}
-use lib.IntN.{ℤ, pos, negsuc, _-ℤ_}
+use lib.IntN.{ℤ, pos, negsuc}
 use lib.ListN.{length}
-use Rattle.octets_spec.specs.Choice.{ifOn, ifLt, ifEq}
+use Rattle.octets_spec.specs.Choice.{ifOn, ifEq}
 use Rattle.octets_spec.specs.Number.{leBytes}
 use Rattle.octets_spec.proofs.ChoiceLaws.{if-lt, if-ge}
 use Rattle.mac_header_spec.specs.declared.SequenceNumber.{SequenceNumber}
@@ -16,7 +16,7 @@ use Rattle.mac_header_spec.specs.declared.SequenceNumber.the-variants.{Absent, 
 use Rattle.mac_header_spec.specs.declared.Address.{Address}
 use Rattle.mac_header_spec.specs.declared.Address.the-variants.{Short, Extended}
 use Rattle.eb_record_spec.specs.Form.{addressFits}
-use Rattle.eb_write_spec.specs.Frame.{suppressedBit, sequenceBytes, addressMode, addressBytes, headerDescriptor, flag}
+use Rattle.eb_write_spec.specs.Frame.{suppressedBit, addressMode, headerDescriptor, flag}
 use Rattle.eb_write_spec.specs.Limits.{sequenceFits}
 use Rattle.eb_write_spec.proofs.LengthLaws.{length-le, on}
 use Rattle.eb_grammar_spec.specs.Row.{le, bits}
@@ -27,7 +27,7 @@ use Rattle.ack_read_spec.specs.Read.{correctionOf}
 use Rattle.ack_write_spec.specs.Frame.{compressionBit, controlWord, macHeaderBytes, correctionBits, correctionWord, correctionBytes, frameOf}
 use Rattle.ack_write_spec.specs.Limits.{isCorrection, fits}
 use Rattle.ack_write_spec.proofs.Claimed.{lengths-from-12-to-25}
-use Rattle.ack_grammar_spec.specs.Grammar.{Compression, both-extended, destination-short, source-short, FrameControl, FixedFields, fixed-fields, elementsOf, bytes-end, CorrectionContent, correction, Accepts}
+use Rattle.ack_grammar_spec.specs.Grammar.{Compression, both-extended, destination-short, source-short, FrameControl, FixedFields, fixed-fields, elementsOf, bytes-end, CorrectionContent, correction}
 use Rattle.ack_grammar_spec.proofs.Agreed.{signed-is}
 use Rattle.ack_round_trip_spec.specs.ReadBack.{WrittenIsOfTheGrammar}
 

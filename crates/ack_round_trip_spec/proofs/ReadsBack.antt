@@ -1,16 +1,15 @@
 -- What is written is bytes and is of the grammar, so that it reads back; what is read is of the grammar, so that it can be written. Assumes nothing.
-use Prim.Native.Nat.{ℕ, _≤_}
+use Prim.Native.Nat.{ℕ}
 use mathlib.Core.Path.{_≡_, refl, sym, _∙_, ap, subst}
 use mathlib.Core.Bool.{true, and-eq-true-iff}
-use mathlib.Core.List.{List, _++_}
+use mathlib.Core.List.{List}
 use native.Mathlib.Omega.{arith}
 use lib.ListN.{length}
-use Rattle.octets_spec.specs.Choice.{ifOn, ifEq}
+use Rattle.octets_spec.specs.Choice.{ifOn}
 use Rattle.octets_spec.specs.Number.{leBytes}
 use Rattle.octets_spec.proofs.ChoiceLaws.{if-eq}
 use Rattle.eb_write_spec.specs.Frame.{suppressedBit, sequenceBytes, addressMode, addressBytes, headerDescriptor}
 use Rattle.eb_write_spec.specs.Write.{numberFor, answerFor}
-use Rattle.eb_write_spec.specs.declared.Written.{Written}
 use Rattle.eb_write_spec.proofs.WrittenLaws.{each-when}
 use Rattle.eb_read_spec.specs.Claims.{Bytes}
 use Rattle.eb_round_trip_spec.proofs.AllBytes.{All, bytes-of, all-of, both, parts}
@@ -20,7 +19,6 @@ use Rattle.ack_record_spec.specs.declared.AckForm.{AckForm}
 use Rattle.ack_record_spec.specs.Record.{formOf, ackOf, isAck}
 use Rattle.ack_record_spec.proofs.FormLaws.{forms-give-the-record, records-give-the-form}
 use Rattle.ack_read_spec.specs.Read.{readAck}
-use Rattle.ack_read_spec.specs.Witnesses.{shortest}
 use Rattle.ack_read_spec.specs.declared.AckAnswer.{AckAnswer}
 use Rattle.ack_read_spec.proofs.Witnessed.{shortest-is-read}
 use Rattle.ack_write_spec.specs.Frame.{compressionBit, controlWord, macHeaderBytes, correctionBits, correctionWord, correctionBytes, frameOf}
@@ -29,7 +27,7 @@ use Rattle.ack_write_spec.proofs.Claimed.{lengths-from-12-to-25}
 use Rattle.ack_grammar_spec.specs.Grammar.{Accepts}
 use Rattle.ack_grammar_spec.proofs.Agreed.{sound, complete}
 use Rattle.ack_round_trip_spec.specs.ReadBack.{FramesReadBack, FramesDiffer, FormsReadBack, AcceptedFits, WrittenIsNotLonger, AcceptedReadsBack, ReadFormsAreWritten, ShortestIsWrittenBack}
-use Rattle.ack_round_trip_spec.proofs.OfTheGrammar.{Within, within, written-is-of-the-grammar}
+use Rattle.ack_round_trip_spec.proofs.OfTheGrammar.{within, written-is-of-the-grammar}
 use Rattle.ack_round_trip_spec.proofs.Fits.{said-fits, said-long}
 
 -- ---- written, then read

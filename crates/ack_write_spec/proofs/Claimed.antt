@@ -1,10 +1,9 @@
 -- The claims about writing an acknowledgement. Assumes nothing.
-use Prim.Native.Nat.{ℕ, _+_, _≤_}
-use mathlib.Core.Path.{_≡_, refl, sym, _∙_}
-use mathlib.Core.Bool.{true, false}
-use mathlib.Core.List.{List}
+use Prim.Native.Nat.{_≤_}
+use mathlib.Core.Path.{refl}
+use mathlib.Core.Bool.{false}
 use native.Mathlib.Omega.{arith}
-use lib.IntN.{pos, negℤ}
+use lib.IntN.{pos}
 use lib.ListN.{length, length-append}
 use Rattle.octets_spec.specs.Number.{leBytes}
 use Rattle.mac_header_spec.specs.declared.SequenceNumber.{SequenceNumber}

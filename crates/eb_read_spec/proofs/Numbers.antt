@@ -1,7 +1,7 @@
 -- Every number of reading is one of 0 to 8, and 1 is given for the length alone. Assumes nothing.
 use Prim.Native.Nat.{ℕ, zero, suc, _-_, _≤_}
 use mathlib.Core.Path.{_≡_, refl, sym, subst}
-use mathlib.Core.Bool.{Bool, true, false, not, _&&_}
+use mathlib.Core.Bool.{Bool, not, _&&_}
 use mathlib.Core.List.{List}
 use lib.Dec.{T, T-not, leb, eqb, leb→le}
 use lib.ListN.{length}
