@@ -452,7 +452,8 @@ fn named_files_are_there() {
 fn crates_and_documents_are_listed() {
     let readme = document("README.md");
     let quoted = quoted(&readme);
-    let documents = files(&root().join("docs"), "md").into_iter().map(|path| format!("docs/{}.md", stem(&path)));
+    let in_tree = |path: PathBuf| path.strip_prefix(root()).expect("a document is in the tree").display().to_string();
+    let documents = files(&root().join("docs"), "md").into_iter().map(in_tree);
     let expected: Vec<String> = crates().into_iter().chain(documents).collect();
     let wrong = expected.iter().filter(|name| !quoted.contains(name.as_str())).cloned().collect();
     expect_none("crates and documents that README.md does not name", wrong, expected.len(), 40);
