@@ -4,6 +4,7 @@ use mathlib.Core.Path.{_≡_, refl, sym, _∙_, ap, subst}
 use mathlib.Core.Bool.{true, false}
 use mathlib.Core.List.{List}
 use lib.Dec.{eqb}
+use lib.ListN.{length, getD}
 use lib.IntN.{ℤ, pos, negsuc, _-ℤ_}
 use lib.Signed.{ltZ}
 use mir.Syntax.{w32}
@@ -11,39 +12,50 @@ use mir.Val.{SFits, toZ, ofZ}
 use mir.Facts.{toZ-pos, toZ-ofZ}
 use native.Mathlib.Omega.{arith}
 use borrow.Author.Tests.{lt-ltb, ltb-true, ltb-false}
+use Rattle.octets_spec.specs.Choice.{ifEq}
 use Rattle.octets_spec.specs.Number.{leAt}
-use Rattle.octets_spec.proofs.ChoiceLaws.{if-lt, if-ge, if-eq, if-ne}
-use Rattle.mac_header_spec.specs.Fields.{macHeaderOf, AddressesFit}
+use Rattle.octets_spec.proofs.ChoiceLaws.{if-lt, if-ge, if-eq, if-ne, by-test}
+use Rattle.mac_header_spec.specs.Control.{controlOf}
+use Rattle.mac_header_spec.specs.Fields.{addressLength, offsetsOf, macHeaderOf}
+use Rattle.mac_header_spec.specs.declared.Control.{Control}
+use Rattle.mac_header_spec.specs.declared.FieldOffsets.{FieldOffsets}
 use Rattle.mac_header_spec.specs.declared.MacHeader.{MacHeader}
-use Rattle.eb_record_spec.proofs.FieldForms.{sequence-form, sequence-zero, address-form, number-form, kind-fits, suppressed-zero}
+use Rattle.mac_header_spec.proofs.ControlLaws.{fields}
+use Rattle.eb_record_spec.proofs.FieldForms.{sequence-form, sequence-zero, address-form, number-form, kind-fits}
 use Rattle.ack_record_spec.specs.declared.AckForm.{AckForm}
 use Rattle.ack_record_spec.specs.Record.{formOf, isAck}
 use Rattle.ack_read_spec.specs.Policy.{compressionOf}
 use Rattle.ack_read_spec.specs.Read.{correctionOf, nackOf, ackFrom}
 
--- ---- the form
-module _ (s : List ℕ) (header : MacHeader) (word : ℕ) (correction : ℤ) (e : header ≡ macHeaderOf s) where
+-- ---- the form, as the code finds the fields
+module _ (s : List ℕ) (word : ℕ) (control : Control) (offsets : FieldOffsets) (sequence pan destination source content : ℕ) (correction : ℤ) (e : word ≡ leAt 2 s 0) (f : control ≡ controlOf word) (g : offsets ≡ offsetsOf control (length s)) (h : sequence ≡ ifEq (control .suppressed) 0 (getD s 2 0) 0) where
   abbrev decoded : AckForm
   decoded = record {
-    sequenced = eqb (header .control .suppressed) 0;
-    sequence = header .sequence;
-    pan = header .pan;
-    «destination_extended» = eqb (header .control .destination) 3;
-    destination = header .destination;
-    «source_extended» = eqb (header .control .source) 3;
-    source = header .source;
+    sequenced = eqb (control .suppressed) 0;
+    sequence = sequence;
+    pan = pan;
+    «destination_extended» = eqb (control .destination) 3;
+    destination = destination;
+    «source_extended» = eqb (control .source) 3;
+    source = source;
     correction = correction;
-    nack = eqb (word / 32768 % 2) 1;
+    nack = eqb (content / 32768 % 2) 1;
   }
 
-  pub form-is : (at : ℕ) → word ≡ leAt 2 s at → correction ≡ correctionOf word → decoded ≡ formOf (ackFrom (macHeaderOf s) (leAt 2 s at))
+  pub form-is : (at : ℕ) → pan ≡ leAt 2 s (offsets .pan) → destination ≡ leAt (addressLength (control .destination)) s (offsets .destination) → source ≡ leAt (addressLength (control .source)) s (offsets .source)
+      → content ≡ leAt 2 s at → correction ≡ correctionOf content → decoded ≡ formOf (ackFrom (macHeaderOf s) (leAt 2 s at))
   unfolding formOf ackFrom nackOf
-  form-is at f g =
-      rw (g, f, e, sequence-form (macHeaderOf s), sequence-zero s, address-form (macHeaderOf s .control .destination) (macHeaderOf s .destination), number-form (macHeaderOf s .control .destination) (macHeaderOf s .destination), address-form (macHeaderOf s .control .source) (macHeaderOf s .source), number-form (macHeaderOf s .control .source) (macHeaderOf s .source)) refl
+  form-is at i j k l m =
+      let built : header ≡ macHeaderOf s = fields s word control offsets e f g sequence pan destination source h i j k in
+      rw (m, l, sequence-form (macHeaderOf s), sequence-zero s, address-form (macHeaderOf s .control .destination) (macHeaderOf s .destination), number-form (macHeaderOf s .control .destination) (macHeaderOf s .destination), address-form (macHeaderOf s .control .source) (macHeaderOf s .source), number-form (macHeaderOf s .control .source) (macHeaderOf s .source), ← built) refl
+    where
+      header : MacHeader
+      header = record { control = control; sequence = sequence; pan = pan; destination = destination; source = source; elements = offsets .elements; end = offsets .end }
 
-  pub form-fits : AddressesFit header → isAck decoded ≡ true
-  unfolding isAck
-  form-fits fits = rw (kind-fits (header .control .destination) (header .destination) (fits .0), kind-fits (header .control .source) (header .source) (fits .1), e, suppressed-zero s) refl
+  pub form-fits : ((control .destination ≡ 3 → ⊥) → destination < 65536) → ((control .source ≡ 3 → ⊥) → source < 65536) → isAck decoded ≡ true
+  unfolding isAck ifEq
+  form-fits far near =
+      rw (kind-fits (control .destination) destination far, kind-fits (control .source) source near, h) (by-test (eqb (control .suppressed) 0) (λ t. rw t refl) (λ t. rw t refl))
 
 pub ruleset decoding = (form-is, form-fits)
 

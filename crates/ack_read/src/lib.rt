@@ -26,20 +26,25 @@ fn found_of(s: &[u8]) -> Found
     crate::correction::find(s, at, end)
 }
 
-// The record of a frame whose correction's content starts at an offset.
+// The record of a frame whose correction's content starts at an offset. It does not call `mac_header::read`, so that this has one caller in
+// the static library, the decoder of beacons, and is inlined there (docs/SPEED.md).
 fn decode(s: &[u8], at: usize) -> AckForm
     ensures { λ r. ⌜ (r ≡ formOf (ackFrom (macHeaderOf (now (s .entry))) (leAt 2 (now (s .entry)) at))) × (isAck r ≡ true) ⌝ }
 {
-    let header = mac_header::read(s);
+    let control = mac_header::control_of(octets::get::le(s, 0, 2));
+    let offsets = mac_header::offsets_of(control, s.len());
+    let pan = offsets.pan;
+    let destination = offsets.destination;
+    let source = offsets.source;
     let word = octets::get::le(s, at, 2);
     AckForm {
-        sequenced: header.control.suppressed == 0,
-        sequence: header.sequence,
-        pan: header.pan,
-        destination_extended: header.control.destination == mac_header_spec::EXTENDED,
-        destination: header.destination,
-        source_extended: header.control.source == mac_header_spec::EXTENDED,
-        source: header.source,
+        sequenced: control.suppressed == 0,
+        sequence: mac_header::sequence(s, control.suppressed),
+        pan: octets::get::le(s, pan, 2) as u16,
+        destination_extended: control.destination == mac_header_spec::EXTENDED,
+        destination: mac_header::address(s, control.destination, destination),
+        source_extended: control.source == mac_header_spec::EXTENDED,
+        source: mac_header::address(s, control.source, source),
         correction: crate::correction::correction_of(word),
         nack: word / 0x8000 % 2 == 1,
     }

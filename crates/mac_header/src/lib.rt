@@ -2,6 +2,7 @@
 // frames are accepted.
 ghost use mathlib.Core.Path.{_≡_};
 ghost use Prim.Native.Nat.{_≤_, _<_};
+ghost use lib.ListN.{getD};
 ghost use Rattle.octets_spec.specs.Choice.{ifEq};
 ghost use Rattle.octets_spec.specs.Number.{leAt};
 ghost use Rattle.mac_header_spec.specs.Control.{controlOf};
@@ -77,8 +78,15 @@ pub fn offsets_of(control: Control, size: usize) -> FieldOffsets
     }
 }
 
+// The sequence number, 0 where it is suppressed.
+pub fn sequence(s: &[u8], suppressed: u64) -> u8
+    ensures { λ r. ⌜ r ≡ ifEq suppressed 0 (getD (now (s .entry)) 2 0) 0 ⌝ }
+{
+    octets::choose(suppressed, 0, octets::get::byte(s, 2), 0) as u8
+}
+
 // An address of a mode. Both widths are read: no branch depends on what a frame happens to hold.
-fn address(s: &[u8], mode: u64, at: usize) -> u64
+pub fn address(s: &[u8], mode: u64, at: usize) -> u64
     ensures { λ r. ⌜ (r ≡ leAt (addressLength mode) (now (s .entry)) at) × ((mode ≡ 3 → ⊥) → r < 0x1_0000) ⌝ }
 {
     let long = octets::get::le(s, at, 8);
@@ -98,7 +106,7 @@ pub fn read(s: &[u8]) -> MacHeader
     let source = offsets.source;
     MacHeader {
         control,
-        sequence: octets::choose(control.suppressed, 0, octets::get::byte(s, 2), 0) as u8,
+        sequence: sequence(s, control.suppressed),
         pan: octets::get::le(s, pan, 2) as u16,
         destination: address(s, control.destination, destination),
         source: address(s, control.source, source),

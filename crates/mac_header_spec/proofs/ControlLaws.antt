@@ -40,6 +40,9 @@ module _ (s : List ℕ) (mode at long short r : ℕ) (e : long ≡ leAt 8 s at) 
   address-short small other = let is : short ≡ ifEq mode 3 long short = if-ne _ _ mode 3 other refl in omega (arith, g, is)
 
 -- ---- the fields
+pub sequence-is : (s : List ℕ) (suppressed byte r : ℕ) → byte ≡ getD s 2 0 → r ≡ ifEq suppressed 0 byte 0 → r ≡ ifEq suppressed 0 (getD s 2 0) 0
+sequence-is s suppressed byte r e f = rw e at f
+
 pub sequence-small : (suppressed byte sequence : ℕ) → sequence ≡ ifEq suppressed 0 byte 0 → byte < 256 → Fits w8 sequence
 sequence-small suppressed byte sequence e small = record { fits = rw e (either-eq (λ n. n < 256) byte 0 small (lit< tt) suppressed 0) }
 
@@ -53,11 +56,11 @@ module _ (s : List ℕ) (word : ℕ) (control : Control) (found : FieldOffsets) 
   unfolding macHeaderOf
   ends-are = rw (g, f, e)
 
-  pub fields : (byte sequence pan destination source : ℕ) → byte ≡ getD s 2 0 → sequence ≡ ifEq (control .suppressed) 0 byte 0 → pan ≡ leAt 2 s (found .pan)
+  pub fields : (sequence pan destination source : ℕ) → sequence ≡ ifEq (control .suppressed) 0 (getD s 2 0) 0 → pan ≡ leAt 2 s (found .pan)
       → destination ≡ leAt (addressLength (control .destination)) s (found .destination) → source ≡ leAt (addressLength (control .source)) s (found .source)
       → record { control = control; sequence = sequence; pan = pan; destination = destination; source = source; elements = found .elements; end = found .end } ≡ macHeaderOf s
   unfolding macHeaderOf
-  fields byte sequence pan destination source h i j k l = rw (i, h, j, k, l, g, f, e) refl
+  fields sequence pan destination source i j k l = rw (i, j, k, l, g, f, e) refl
 
 -- the fields of a frame by the lengths of those that vary: k bytes of a sequence number, d of a destination, m of a source
 module _ (s : List ℕ) (control : Control) (is : control ≡ controlOf (leAt 2 s 0)) (k d m : ℕ) (k-is : 2 + k ≡ ifEq (control .suppressed) 0 3 2) (d-is : d ≡ addressLength (control .destination)) (m-is : m ≡ addressLength (control .source)) where
@@ -74,7 +77,7 @@ module _ (s : List ℕ) (control : Control) (is : control ≡ controlOf (leAt 2 
 
   pub placed-is : placed ≡ macHeaderOf s
   placed-is =
-      fields s (leAt 2 s 0) control _ refl is (offsets control (length s) (2 + k) d m k-is d-is m-is) (getD s 2 0) (ifEq (control .suppressed) 0 (getD s 2 0) 0) (leAt 2 s (2 + k)) (leAt d s (2 + k + 2)) (leAt m s (2 + k + 2 + d)) refl
-      refl refl (ap (λ (width : ℕ). leAt width s (2 + k + 2)) d-is) (ap (λ (width : ℕ). leAt width s (2 + k + 2 + d)) m-is)
+      fields s (leAt 2 s 0) control _ refl is (offsets control (length s) (2 + k) d m k-is d-is m-is) (ifEq (control .suppressed) 0 (getD s 2 0) 0) (leAt 2 s (2 + k)) (leAt d s (2 + k + 2)) (leAt m s (2 + k + 2 + d)) refl
+      refl (ap (λ (width : ℕ). leAt width s (2 + k + 2)) d-is) (ap (λ (width : ℕ). leAt width s (2 + k + 2 + d)) m-is)
 
-pub ruleset controlling = (choices, controls, offsets, address-is, address-short, sequence-small, fields)
+pub ruleset controlling = (choices, controls, offsets, address-is, address-short, sequence-is, sequence-small, fields)

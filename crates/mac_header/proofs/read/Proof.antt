@@ -13,20 +13,14 @@ control-of-requires c κs = search needs
 offsets-of-requires : tie.Need-offsets-of-requires
 offsets-of-requires c κs = search needs
 
-byte-requires : tie.Need-byte-requires
-byte-requires c κs = search needs
-
-choose-requires : tie.Need-choose-requires
-choose-requires c κs = search needs
-
-cast-t10 : tie.Need-cast-t10
-cast-t10 c = search (needs, controlling) depth 12
+sequence-requires : tie.Need-sequence-requires
+sequence-requires c κs = search needs
 
 le-requires-2 : tie.Need-le-requires-2
 le-requires-2 c κs = search needs
 
-cast-t12 : tie.Need-cast-t12
-cast-t12 c = search needs
+cast-t10 : tie.Need-cast-t10
+cast-t10 c = search needs
 
 address-requires : tie.Need-address-requires
 address-requires c κs = search needs
@@ -40,5 +34,13 @@ returns c = search (needs, controlling) depth 12
 pub read-spec : {M : Type 1} → statement M
 read-spec =
     tie.close
-    (tie.spec le-requires control-of-requires offsets-of-requires byte-requires choose-requires cast-t10
-    le-requires-2 cast-t12 address-requires address-requires-2 returns)
+    (tie.spec
+    le-requires
+    control-of-requires
+    offsets-of-requires
+    sequence-requires
+    le-requires-2
+    cast-t10
+    address-requires
+    address-requires-2
+    returns)
