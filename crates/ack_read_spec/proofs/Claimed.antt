@@ -7,6 +7,7 @@ use native.Mathlib.Omega.{arith}
 use lib.Dec.{lit≤}
 use lib.ListN.{length}
 use Rattle.octets_spec.proofs.ChoiceLaws.{either-eq, by-eq}
+use Rattle.refusal.specs.Refusal.{GivenWhen}
 use Rattle.mac_header_spec.specs.Fields.{macHeaderOf}
 use Rattle.ie_walk_spec.specs.Walk.{HeaderElement}
 use Rattle.eb_read_spec.specs.Claims.{HasControl}
@@ -15,7 +16,7 @@ use Rattle.eb_read_spec.proofs.HeaderNumbers as beacon
 use Rattle.eb_read_spec.proofs.Numbers.{Late, header-fault}
 use Rattle.ack_read_spec.specs.Policy.{macHeaderFault}
 use Rattle.ack_read_spec.specs.Read.{elementFault, foundAmong, foundIn, foundOf, readAck}
-use Rattle.ack_read_spec.specs.Claims.{NumbersTo7, GivenWhen, OneIsTheLength, IsAck, IsAddressed, ThreeIsTheType, FourIsSecurity, FiveIsTheAddressing, NeverABeaconToo}
+use Rattle.ack_read_spec.specs.Claims.{NumbersTo7, OneIsTheLength, IsAck, IsAddressed, ThreeIsTheType, FourIsSecurity, FiveIsTheAddressing, NeverABeaconToo}
 use Rattle.ack_read_spec.specs.declared.Found.{Found}
 use Rattle.ack_read_spec.proofs.Judged.{FormSays, another, secured, unaddressed, formed, HeaderSays, long, empty, form, cut, fine, header-says}
 use Rattle.ack_read_spec.proofs.ReadLaws.{number-of, number-before, number-among}
@@ -64,9 +65,9 @@ module _ (s : List ℕ) where
 
   -- the rows say of a number that it is this one exactly when a condition holds
   abbrev Rows : (ℕ → Type 0) → ℕ → Type 0 → Type 0
-  Rows Says number condition = (n : ℕ) → Says n → (n ≡ number → condition) × (condition → n ≡ number)
+  Rows Says number condition = (n : ℕ) → Says n → GivenWhen n number condition
 
-  by-rows : (number : ℕ) (condition : Type 0) → (Late number → ⊥) → (0 ≡ number → ⊥) → Rows (HeaderSays s) number condition → GivenWhen s number condition
+  by-rows : (number : ℕ) (condition : Type 0) → (Late number → ⊥) → (0 ≡ number → ⊥) → Rows (HeaderSays s) number condition → GivenWhen (readAck s .number) number condition
   by-rows number condition early some rows = (
     by-number s (λ n. n ≡ number → condition) (λ n says bad. rows n says .0) (λ n says late e. absurd (early (subst Late e (late .0)))),
     by-number s (λ n. condition → n ≡ number) (λ n says bad. rows n says .1) (λ n says late c. absurd (some (rows 0 says .1 c))),

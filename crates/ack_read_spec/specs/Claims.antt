@@ -3,7 +3,7 @@ use Prim.Native.Nat.{ℕ, _<_, _≤_}
 use mathlib.Core.Path.{_≡_}
 use mathlib.Core.List.{List}
 use lib.ListN.{length}
-use Rattle.refusal.specs.Refusal.{addressing, done, frameTooLong, secured, wrongType}
+use Rattle.refusal.specs.Refusal.{addressing, done, frameTooLong, secured, wrongType, GivenWhen}
 use Rattle.mac_header_spec.specs.Control.{shortMode, version2015}
 use Rattle.mac_header_spec.specs.Fields.{macHeaderOf}
 use Rattle.eb_read_spec.specs.Claims.{HasControl}
@@ -15,13 +15,9 @@ use Rattle.ack_read_spec.specs.Read.{readAck}
 abbrev pub NumbersTo7 : Type 0
 NumbersTo7 = (s : List ℕ) → readAck s .number ≤ 7
 
--- the number given is this one exactly when a condition holds
-abbrev pub GivenWhen : List ℕ → ℕ → Type 0 → Type 0
-GivenWhen s number condition = (readAck s .number ≡ number → condition) × (condition → readAck s .number ≡ number)
-
 -- it is 1 exactly when the frame is longer than 125 bytes
 abbrev pub OneIsTheLength : Type 0
-OneIsTheLength = (s : List ℕ) → GivenWhen s frameTooLong (125 < length s)
+OneIsTheLength = (s : List ℕ) → GivenWhen (readAck s .number) frameTooLong (125 < length s)
 
 -- frame control says that this is an acknowledgement of the version of 2015
 abbrev pub IsAck : List ℕ → Type 0
@@ -35,15 +31,15 @@ IsAddressed s =
 
 -- 3 exactly when frame control can be read, and says that this is no acknowledgement of the version of 2015
 abbrev pub ThreeIsTheType : Type 0
-ThreeIsTheType = (s : List ℕ) → GivenWhen s wrongType (HasControl s × (IsAck s → ⊥))
+ThreeIsTheType = (s : List ℕ) → GivenWhen (readAck s .number) wrongType (HasControl s × (IsAck s → ⊥))
 
 -- 4 exactly when it is such an acknowledgement, and secured
 abbrev pub FourIsSecurity : Type 0
-FourIsSecurity = (s : List ℕ) → GivenWhen s secured (HasControl s × (IsAck s × (macHeaderOf s .control .security ≡ 0 → ⊥)))
+FourIsSecurity = (s : List ℕ) → GivenWhen (readAck s .number) secured (HasControl s × (IsAck s × (macHeaderOf s .control .security ≡ 0 → ⊥)))
 
 -- 5 exactly when it is such an acknowledgement, not secured, and has another addressing
 abbrev pub FiveIsTheAddressing : Type 0
-FiveIsTheAddressing = (s : List ℕ) → GivenWhen s addressing (HasControl s × (IsAck s × (macHeaderOf s .control .security ≡ 0) × (IsAddressed s → ⊥)))
+FiveIsTheAddressing = (s : List ℕ) → GivenWhen (readAck s .number) addressing (HasControl s × (IsAck s × (macHeaderOf s .control .security ≡ 0) × (IsAddressed s → ⊥)))
 
 -- no list of bytes is accepted as a beacon and as an acknowledgement
 abbrev pub NeverABeaconToo : Type 0

@@ -4,7 +4,7 @@ use mathlib.Core.Path.{_≡_}
 use mathlib.Core.List.{List}
 use mathlib.Core.Logic.{_⊎_}
 use lib.ListN.{length, getD}
-use Rattle.refusal.specs.Refusal.{addressing, done, frameTooLong, secured, wrongType}
+use Rattle.refusal.specs.Refusal.{addressing, done, frameTooLong, secured, wrongType, GivenWhen}
 use Rattle.mac_header_spec.specs.Control.{shortMode, version2015}
 use Rattle.mac_header_spec.specs.Fields.{macHeaderOf}
 use Rattle.ie_walk_spec.specs.Walk.{headerGo, outerGo}
@@ -19,7 +19,7 @@ NumbersTo8 = (s : List ℕ) → readFrame s .number ≤ 8
 
 -- it is 1 exactly when the frame is longer than 125 bytes
 abbrev pub OneIsTheLength : Type 0
-OneIsTheLength = (s : List ℕ) → (readFrame s .number ≡ frameTooLong → 125 < length s) × (125 < length s → readFrame s .number ≡ frameTooLong)
+OneIsTheLength = (s : List ℕ) → GivenWhen (readFrame s .number) frameTooLong (125 < length s)
 
 -- frame control can be read: the frame is not too long, and has two bytes
 abbrev pub HasControl : List ℕ → Type 0
@@ -41,21 +41,17 @@ AnotherDestination s = (macHeaderOf s .elements ≤ macHeaderOf s .end) × (macH
 
 -- the number is 3 exactly when frame control can be read, and says that this is no beacon of the version of 2015
 abbrev pub ThreeIsTheType : Type 0
-ThreeIsTheType = (s : List ℕ) → (readFrame s .number ≡ wrongType → HasControl s × (IsBeacon s → ⊥)) × (HasControl s × (IsBeacon s → ⊥) → readFrame s .number ≡ wrongType)
+ThreeIsTheType = (s : List ℕ) → GivenWhen (readFrame s .number) wrongType (HasControl s × (IsBeacon s → ⊥))
 
 -- 4 exactly when it is such a beacon, and secured
 abbrev pub FourIsSecurity : Type 0
-FourIsSecurity =
-    (s : List ℕ) →
-    let condition : Type 0 = HasControl s × IsBeacon s × (macHeaderOf s .control .security ≡ 0 → ⊥) in
-    (readFrame s .number ≡ secured → condition) × (condition → readFrame s .number ≡ secured)
+FourIsSecurity = (s : List ℕ) → GivenWhen (readFrame s .number) secured (HasControl s × IsBeacon s × (macHeaderOf s .control .security ≡ 0 → ⊥))
 
 -- 5 exactly when it is such a beacon, not secured, and has another addressing or another destination
 abbrev pub FiveIsTheAddressing : Type 0
 FiveIsTheAddressing =
     (s : List ℕ) →
-    let condition : Type 0 = HasControl s × IsBeacon s × (macHeaderOf s .control .security ≡ 0) × ((IsAddressed s → ⊥) ⊎ (IsAddressed s × AnotherDestination s)) in
-    (readFrame s .number ≡ addressing → condition) × (condition → readFrame s .number ≡ addressing)
+    GivenWhen (readFrame s .number) addressing (HasControl s × IsBeacon s × (macHeaderOf s .control .security ≡ 0) × ((IsAddressed s → ⊥) ⊎ (IsAddressed s × AnotherDestination s)))
 
 -- every entry of a list is a byte
 abbrev pub Bytes : List ℕ → Type 0

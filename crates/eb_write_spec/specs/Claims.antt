@@ -3,7 +3,7 @@ use Prim.Native.Nat.{ℕ, _<_, _≤_}
 use mathlib.Core.Path.{_≡_}
 use mathlib.Core.Bool.{Bool, true, false}
 use lib.ListN.{length}
-use Rattle.refusal.specs.Refusal.{done, frameTooLong, outOfLimits, bufferTooShort}
+use Rattle.refusal.specs.Refusal.{done, frameTooLong, outOfLimits, bufferTooShort, GivenWhen}
 use Rattle.eb_record_spec.specs.declared.Beacon.{Beacon}
 use Rattle.eb_record_spec.specs.declared.BeaconForm.{BeaconForm}
 use Rattle.eb_record_spec.specs.Form.{beaconOf}
@@ -11,10 +11,6 @@ use Rattle.eb_write_spec.specs.Frame.{frameOf}
 use Rattle.eb_write_spec.specs.Limits.{fits}
 use Rattle.eb_write_spec.specs.Write.{writtenNumber}
 use Rattle.eb_write_spec.specs.Form.{formFits, formWritten}
-
--- the number given is this one exactly when a condition holds
-abbrev pub GivenWhen : ℕ → ℕ → Type 0 → Type 0
-GivenWhen given number condition = (given ≡ number → condition) × (condition → given ≡ number)
 
 -- when each number is given, by whether the record is within the limits, the bytes of its frame and those of the buffer: the record is
 -- outside the limits; else the frame is longer than 125 bytes; else the buffer is shorter than the frame; else the frame is written

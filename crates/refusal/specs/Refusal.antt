@@ -1,5 +1,6 @@
 -- The numbers that a call can return, by the names of src/lib.rt (docs/RULES.md, Refusals). Assumes nothing.
 use Prim.Native.Nat.{ℕ}
+use mathlib.Core.Path.{_≡_}
 
 -- DONE: the call is done; nothing was refused.
 abbrev pub done : ℕ
@@ -13,7 +14,7 @@ frameTooLong = 1
 abbrev pub cut : ℕ
 cut = 2
 
--- WRONG_TYPE: the frame is no beacon: its type is not 0 or its version is not 2.
+-- WRONG_TYPE: the frame's type is not that of the call (a beacon's is 0, an acknowledgement's 2), or its version is not 2.
 abbrev pub wrongType : ℕ
 wrongType = 3
 
@@ -21,7 +22,7 @@ wrongType = 3
 abbrev pub secured : ℕ
 secured = 4
 
--- ADDRESSING: the addressing modes, PAN ID compression, the presence of elements or the destination are not as an Enhanced Beacon has them.
+-- ADDRESSING: the addressing modes, PAN ID compression, the presence of elements or a beacon's destination are not of the accepted form.
 abbrev pub addressing : ℕ
 addressing = 5
 
@@ -48,3 +49,7 @@ unknownNeighbour = 10
 -- TABLE_FULL: the neighbour is new, and all 32 places of the table are in use.
 abbrev pub tableFull : ℕ
 tableFull = 11
+
+-- the number given is this one exactly when a condition holds
+abbrev pub GivenWhen : ℕ → ℕ → Type 0 → Type 0
+GivenWhen given number condition = (given ≡ number → condition) × (condition → given ≡ number)

@@ -7,11 +7,11 @@ pub const DONE: u8 = 0;
 pub const FRAME_TOO_LONG: u8 = 1;
 // A field, an element or an element's two descriptor bytes run past what encloses them.
 pub const CUT: u8 = 2;
-// The frame is no beacon: its type is not 0 or its version is not 2.
+// The frame's type is not that of the call (a beacon's is 0, an acknowledgement's 2), or its version is not 2.
 pub const WRONG_TYPE: u8 = 3;
 // The security bit is set.
 pub const SECURED: u8 = 4;
-// The addressing modes, PAN ID compression, the presence of elements or the destination are not as an Enhanced Beacon has them.
+// The addressing modes, PAN ID compression, the presence of elements or a beacon's destination are not of the accepted form.
 pub const ADDRESSING: u8 = 5;
 // An element has the wrong shape: its length or a bit of its descriptor is not as its kind has it.
 pub const SHAPE: u8 = 6;
