@@ -2,8 +2,6 @@
 
 // What the program is called in what it tells.
 const PROGRAM: [u8; 3] = *b"ack";
-// A buffer in which every line has room.
-const LINE: usize = 192;
 
 fn main() {
     let mut frame = [0u8; frame_program::MOST_READ];
@@ -12,7 +10,7 @@ fn main() {
         return;
     }
     let length = io::count(got, &frame);
-    let mut buffer = [0u8; LINE];
+    let mut buffer = [0u8; text_ack::ROOM];
     let end = text_ack::ack_line(&frame[..length], &mut buffer);
     frame_program::print(&PROGRAM, &buffer[..end]);
 }

@@ -12,15 +12,11 @@ use Rattle.mac_header_spec.specs.Fields.{macHeaderOf, sequenceOf, addressOf}
 use Rattle.mac_header_spec.specs.declared.MacHeader.{MacHeader}
 use Rattle.ie_walk_spec.specs.Walk.{HeaderElement, HeaderList, headerList}
 use Rattle.ack_record_spec.specs.declared.Ack.{Ack}
-use Rattle.ack_record_spec.specs.Record.{blankAck, formOf}
+use Rattle.ack_record_spec.specs.Record.{correctionId, blankAck, formOf}
 use Rattle.ack_read_spec.specs.Policy.{macHeaderFault}
 use Rattle.ack_read_spec.specs.declared.Found.{Found}
 use Rattle.ack_read_spec.specs.declared.AckAnswer.{AckAnswer}
 use Rattle.ack_read_spec.specs.declared.AckReading.{AckReading}
-
--- the header element that holds the correction
-abbrev pub correctionId : ℕ
-correctionId = 0x1E
 
 -- ---- the header list
 -- an element, where the content of a correction before it starts at `at`, 0 for none: a correction has 2 bytes (6), and is there once (7)

@@ -1,4 +1,5 @@
--- The blank record, the record without enums, as C has it, and which forms are a record's (docs/RULES.md, Acknowledgements). Assumes nothing.
+-- The ID of the element that a record is said by, the blank record, the record without enums, as C has it, and which forms are a record's
+-- (docs/RULES.md, Acknowledgements). Assumes nothing.
 use Prim.Native.Nat.{ℕ, _^_}
 use mathlib.Core.Path.{_≡_}
 use mathlib.Core.Bool.{Bool, true, false, _&&_, _||_}
@@ -9,6 +10,10 @@ use Rattle.mac_header_spec.specs.declared.Address.the-variants.{Short}
 use Rattle.eb_record_spec.specs.Form.{isSequenced, sequenceNumber, isExtended, addressNumber, sequenceFrom, addressFrom, addressFits}
 use Rattle.ack_record_spec.specs.declared.Ack.{Ack}
 use Rattle.ack_record_spec.specs.declared.AckForm.{AckForm}
+
+-- the header element that holds the correction
+abbrev pub correctionId : ℕ
+correctionId = 0x1E
 
 -- the blank record: all zeros, both addresses short, no sequence number
 unfoldable pub blankAck : Ack

@@ -10,10 +10,7 @@ use Rattle.mac_header_spec.specs.declared.Address.{Address}
 use Rattle.mac_header_spec.specs.declared.Address.the-variants.{Short, Extended}
 use Rattle.eb_write_spec.specs.Frame.{suppressedBit, sequenceBytes, addressMode, addressBytes, headerDescriptor, flag}
 use Rattle.ack_record_spec.specs.declared.Ack.{Ack}
-
--- the header element that holds the correction
-abbrev pub correctionId : ℕ
-correctionId = 0x1E
+use Rattle.ack_record_spec.specs.Record.{correctionId}
 
 -- the bit of PAN ID compression by destination and source: 0 where both are extended, else 1
 unfoldable pub compressionBit : Address → Address → ℕ

@@ -2,8 +2,6 @@
 
 // What the program is called in what it tells.
 const PROGRAM: [u8; 5] = *b"bench";
-// A buffer in which every line has room.
-const LINE: usize = 128;
 
 fn main() {
     let mut frame = [0u8; frame_program::MOST_READ];
@@ -12,7 +10,7 @@ fn main() {
         return;
     }
     let length = io::count(got, &frame);
-    let mut buffer = [0u8; LINE];
+    let mut buffer = [0u8; text_line::ROOM];
     let end = text_line::bench_line(&frame[..length], &mut buffer);
     frame_program::print(&PROGRAM, &buffer[..end]);
 }

@@ -13,7 +13,7 @@ use mac_header_spec::Address;
 use mac_header_spec::SequenceNumber;
 
 // The least buffer that gets a line.
-const ROOM: usize = 192;
+pub const ROOM: usize = 192;
 
 fn is_negative(value: i32) -> bool
     ensures { λ r. ⌜ r ≡ ltZ value (pos 0) ⌝ }

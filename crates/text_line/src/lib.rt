@@ -6,6 +6,9 @@ ghost use Rattle.io.specs.Counts.{Counts};
 ghost use Rattle.text_put_spec.specs.Part.{startsWith, PartPut};
 ghost use Rattle.text_line_spec.specs.Line.{synchronizationText, slotframeText, acceptedText, lineFor};
 
+// The least buffer that gets a line.
+pub const ROOM: usize = 128;
+
 // Each of these puts a part of the line from an offset on, and answers the offset behind it.
 fn put_synchronization(buffer: &mut [u8], at: usize, asn: u64, metric: u8) -> usize
     ensures { λ r. ⌜ PartPut 52 (now (buffer .entry)) at (synchronizationText asn metric) (now (buffer .exit)) r ⌝ }
@@ -41,7 +44,7 @@ pub fn bench_line(s: &[u8], buffer: &mut [u8]) -> usize
     ensures buffer { λ r. ⌜ now (buffer .exit) ≡ startsWith (lineFor (length (now (buffer .entry))) (now (s .entry))) (now (buffer .entry)) ⌝ }
     ensures counts { λ r. ⌜ Counts r (now (buffer .exit)) ⌝ }
 {
-    if buffer.len() < 128 {
+    if buffer.len() < ROOM {
         return 0;
     }
     let answer = eb_read::read(s);

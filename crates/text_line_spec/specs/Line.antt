@@ -40,6 +40,10 @@ acceptedText beacon = synchronizationText (beacon .synchronization .asn) (beacon
 unfoldable pub lineOf : ReadAnswer → List ℕ
 lineOf answer = ifEq (answer .number) done (acceptedText (answer .beacon)) (refusedText (answer .number))
 
+-- the least buffer that gets a line
+abbrev pub lineRoom : ℕ
+lineRoom = 128
+
 -- what a frame puts into a buffer of some length: its line, and nothing into a buffer of under 128 bytes
 abbrev pub lineFor : ℕ → List ℕ → List ℕ
-lineFor room frame = lineIn 128 room (lineOf (readFrame frame))
+lineFor room frame = lineIn lineRoom room (lineOf (readFrame frame))

@@ -4,6 +4,10 @@ ghost use Prim.Native.Nat.{_≤_};
 
 // The last ASN: an ASN has five bytes.
 const LAST_ASN: u64 = 0xFF_FFFF_FFFF;
+// The most bytes of a frame that may be read.
+const LONGEST: usize = 125;
+// One byte more.
+const TOO_LONG: usize = 126;
 
 // Writes a number and the byte behind it.
 fn put(number: u64, end: u8) {
@@ -42,7 +46,7 @@ fn hop(rank: u16) -> u16 {
 // Reads a frame: its length and its line.
 fn frame(s: &[u8]) {
     put(s.len() as u64, b' ');
-    let mut buffer = [0u8; 128];
+    let mut buffer = [0u8; text_line::ROOM];
     let end = text_line::bench_line(s, &mut buffer);
     io::write_all(libc::STDOUT_FILENO, &buffer[..end]);
 }
@@ -80,7 +84,7 @@ fn published_ack(low: u8, high: u8) {
     let mut s = *b"\x42\xAB\x34\x12\x07\x00\x01\x00\x02\x0F\x00\x00";
     s[10] = low;
     s[11] = high;
-    let mut buffer = [0u8; 192];
+    let mut buffer = [0u8; text_ack::ROOM];
     let end = text_ack::ack_line(&s, &mut buffer);
     io::write_all(libc::STDOUT_FILENO, &buffer[..end]);
 }
@@ -106,9 +110,8 @@ fn main() {
     cut(8);
     cut(7);
     cut(0);
-    // The longest frame that may be read, and one byte more.
-    frame(&[0u8; 125]);
-    frame(&[0u8; 126]);
+    frame(&[0u8; LONGEST]);
+    frame(&[0u8; TOO_LONG]);
     // A.1 behind the fields of the beacon above: the RFC shows the elements alone.
     frame(
         b"\x40\xAB\x34\x12\xFF\xFF\x07\x00\x00\x3F\x1A\x88\x06\x1A\x05\x04\x03\x02\x01\x00\x01\x1C\x00\x01\xC8\x00\x0A\x1B\x01\x00\x65\x00\x01\x00\x00\x00\x00\x0F",
