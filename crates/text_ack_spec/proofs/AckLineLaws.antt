@@ -20,9 +20,9 @@ use Rattle.ack_record_spec.specs.declared.Ack.{Ack}
 use Rattle.ack_read_spec.specs.declared.AckAnswer.{AckAnswer}
 use Rattle.ack_read_spec.specs.Read.{readAck}
 use Rattle.text_put_spec.specs.Text.{decimal}
-use Rattle.text_put_spec.specs.Part.{newline, field, refusedText, PartPut}
+use Rattle.text_put_spec.specs.Part.{absentName, newline, field, refusedText, PartPut}
 use Rattle.text_put_spec.proofs.PartLaws.{row, wider}
-use Rattle.text_ack_spec.specs.AckLine.{sequenceName, absentName, panName, destinationName, sourceName, shortName, extendedName, correctionName, minus, acknowledgedName, yes, no, signed, sequenceText, kindText, addressText, addressesText, correctionText, acknowledgedText, ackText, ackLineOf}
+use Rattle.text_ack_spec.specs.AckLine.{sequenceName, panName, destinationName, sourceName, shortName, extendedName, correctionName, minus, acknowledgedName, yes, no, signed, sequenceText, kindText, addressText, addressesText, correctionText, acknowledgedText, ackText, ackLineOf}
 
 -- ---- one part, by each way of a choice
 module _ (s t : List ℕ) (at r : ℕ) where

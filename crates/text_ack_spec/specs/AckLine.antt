@@ -14,15 +14,11 @@ use Rattle.ack_record_spec.specs.declared.Ack.{Ack}
 use Rattle.ack_read_spec.specs.declared.AckAnswer.{AckAnswer}
 use Rattle.ack_read_spec.specs.Read.{readAck}
 use Rattle.text_put_spec.specs.Text.{decimal}
-use Rattle.text_put_spec.specs.Part.{newline, field, refusedText, lineIn}
+use Rattle.text_put_spec.specs.Part.{absentName, newline, field, refusedText, lineIn}
 
 -- `seq `
 abbrev pub sequenceName : List ℕ
 sequenceName = 115 ∷ 101 ∷ 113 ∷ 32 ∷ []
-
--- `absent`
-abbrev pub absentName : List ℕ
-absentName = 97 ∷ 98 ∷ 115 ∷ 101 ∷ 110 ∷ 116 ∷ []
 
 -- ` pan `
 abbrev pub panName : List ℕ

@@ -2,10 +2,10 @@
 // offset behind what it put. A text or a number that does not fit is not put at all: the buffer is then as it was, and the answer is the
 // offset itself.
 ghost use mathlib.Core.Path.{_≡_};
-ghost use Prim.Native.Nat.{_+_, _≤_};
+ghost use Prim.Native.Nat.{_+_, _*_, _≤_};
 ghost use lib.ListN.{length};
 ghost use Rattle.octets_spec.specs.Number.{stored};
-ghost use Rattle.text_put_spec.specs.Text.{decimal as Text·decimal, hexadecimal, fitting};
+ghost use Rattle.text_put_spec.specs.Text.{decimal as Text·decimal, hexadecimal, hexOctets, fitting};
 ghost use Rattle.text_put_spec.specs.Part.{field as Part·field, refusedText, PartPut};
 
 // Puts a text that fits, byte by byte.
@@ -51,10 +51,31 @@ pub fn decimal(buffer: &mut [u8], at: usize, value: u64) -> usize
 pub fn hex(buffer: &mut [u8], at: usize, value: u64, width: usize) -> usize
     ensures answer { λ r. ⌜ r ≡ at + length (fitting (length (now (buffer .entry))) at (hexadecimal width value)) ⌝ }
     ensures buffer { λ r. ⌜ now (buffer .exit) ≡ stored (now (buffer .entry)) at (fitting (length (now (buffer .entry))) at (hexadecimal width value)) ⌝ }
+    ensures part { λ r. ⌜ PartPut 16 (now (buffer .entry)) at (hexadecimal width value) (now (buffer .exit)) r ⌝ }
 {
     let mut space = [0u8; 16];
     let count = io::hex(value, width, &mut space);
     text(buffer, at, &space[..count])
+}
+
+// Puts a byte in hex, in two digits.
+fn octet(buffer: &mut [u8], at: usize, value: u8) -> usize
+    ensures { λ r. ⌜ PartPut 2 (now (buffer .entry)) at (hexadecimal 2 value) (now (buffer .exit)) r ⌝ }
+{
+    hex(buffer, at, value as u64, 2)
+}
+
+// Puts octets in hex, two digits each. Where not all have room, they may be put in part.
+pub fn octets(buffer: &mut [u8], at: usize, values: &[u8]) -> usize
+    ensures part { λ r. ⌜ PartPut (2 * length (now (values .entry))) (now (buffer .entry)) at (hexOctets (now (values .entry))) (now (buffer .exit)) r ⌝ }
+{
+    let mut next = at;
+    let mut i = 0;
+    while i < values.len() {
+        next = octet(buffer, next, values[i]);
+        i += 1;
+    }
+    next
 }
 
 // Puts a number behind its name. Where the longest number has no room, the name may be put alone.

@@ -1,17 +1,18 @@
 -- The laws of a line's parts, in the shape in which the code meets them: one part, parts in a row, and the whole line. Assumes nothing.
-use Prim.Native.Nat.{ℕ, _+_, _<_, _≤_}
+use Prim.Native.Nat.{ℕ, suc, _+_, _*_, _<_, _≤_}
 use mathlib.Core.Path.{_≡_, refl, sym, _∙_, ap}
-use mathlib.Core.List.{List, [], _++_}
+use mathlib.Core.List.{List, [], _∷_, _++_, append-nil, append-assoc}
+use native.Mathlib.Numerals.{add-one}
 use native.Mathlib.Omega.{arith}
-use lib.ListN.{length, length-append}
-use lib.Seq.{sets-eq, length-sets, length-take-le}
+use lib.ListN.{length, getD, take, length-append}
+use lib.Seq.{sets-eq, length-sets, length-take-le, take-suc, take-length}
 use Rattle.octets_spec.specs.Number.{stored}
 use Rattle.octets_spec.proofs.ChoiceLaws.{if-lt, if-ge}
 use Rattle.octets_spec.proofs.PutLaws.{sets-append}
 use Rattle.io.specs.Counts.{Counts}
-use Rattle.text_put_spec.specs.Text.{decimal, fitting}
+use Rattle.text_put_spec.specs.Text.{decimal, hexadecimal, hexOctets, fitting}
 use Rattle.text_put_spec.specs.Part.{newline, refusedName, field, refusedText, lineIn, startsWith, PartPut}
-use Rattle.text_put_spec.proofs.TextLaws.{fits, decimal-short}
+use Rattle.text_put_spec.proofs.TextLaws.{fits, decimal-short, hex-short}
 
 -- ---- one part
 module _ (most at r : ℕ) (s t text : List ℕ) (short : length text ≤ most) (behind : r ≡ at + length (fitting (length s) at text)) (put : t ≡ stored s at (fitting (length s) at text)) where
@@ -32,6 +33,22 @@ module _ (s t : List ℕ) (at r : ℕ) where
 
   pub decimal-part : (n : ℕ) → n < 18446744073709551616 → r ≡ at + length (fitting (length s) at (decimal n)) → t ≡ stored s at (fitting (length s) at (decimal n)) → PartPut 20 s at (decimal n) t r
   decimal-part n small behind put = part 20 at r s t (decimal n) (decimal-short n small) behind put
+
+  pub hex-part : (n width : ℕ) → n < 18446744073709551616 → r ≡ at + length (fitting (length s) at (hexadecimal width n)) → t ≡ stored s at (fitting (length s) at (hexadecimal width n)) → PartPut 16 s at (hexadecimal width n) t r
+  hex-part n width small behind put = part 16 at r s t (hexadecimal width n) (hex-short n width 15 small (omega arith)) behind put
+
+  pub octet-part : (n : ℕ) → n < 256 → r ≡ at + length (fitting (length s) at (hexadecimal 2 n)) → t ≡ stored s at (fitting (length s) at (hexadecimal 2 n)) → PartPut 2 s at (hexadecimal 2 n) t r
+  octet-part n small behind put = part 2 at r s t (hexadecimal 2 n) (hex-short n 2 1 small (omega arith)) behind put
+
+-- no part
+pub nothing-put : (s : List ℕ) (at : ℕ) → PartPut 0 s at [] s at
+unfolding stored
+nothing-put s at = record {
+  short = omega arith;
+  size = refl;
+  bytes = λ _. refl;
+  offset = λ _. omega arith;
+}
 
 -- ---- parts in a row
 module _ (most more at a b : ℕ) (s t u xs ys : List ℕ) (first : PartPut most s at xs t a) (second : PartPut more t a ys u b) where
@@ -64,6 +81,28 @@ module _ (s t u : List ℕ) (at a b : ℕ) where
   pub refused-put : (number : ℕ) → PartPut 28 s at (field refusedName number) t a → PartPut 1 t a newline u b → PartPut 29 s at (refusedText number) u b
   unfolding refusedText
   refused-put number first second = row 28 1 at a b s t u _ newline first second
+
+-- ---- octets, one by one
+hex-append : (xs ys : List ℕ) → hexOctets (xs ++ ys) ≡ hexOctets xs ++ hexOctets ys
+unfolding hexOctets
+hex-append [] ys = refl
+hex-append (x ∷ xs) ys = rw (hex-append xs ys) (sym (append-assoc (hexadecimal 2 x) (hexOctets xs) (hexOctets ys)))
+
+module _ (s l : List ℕ) (at : ℕ) where
+  pub octets-begin : PartPut (2 * 0) s at (hexOctets (take 0 l)) s at
+  unfolding hexOctets
+  octets-begin = nothing-put s at
+
+  module _ (t : List ℕ) (a i : ℕ) (so-far : PartPut (2 * i) s at (hexOctets (take i l)) t a) where
+    pub octets-next : (u : List ℕ) (b : ℕ) → i < length l → PartPut 2 t a (hexadecimal 2 (getD l i 0)) u b → PartPut (2 * (i + 1)) s at (hexOctets (take (i + 1) l)) u b
+    unfolding hexOctets
+    octets-next u b h next =
+        let most : 2 * i + 2 ≡ 2 * (i + 1) = omega arith in
+        let whole : hexOctets (take (i + 1) l) ≡ hexOctets (take i l) ++ hexadecimal 2 (getD l i 0) = rw (add-one i, take-suc l i 0 h, hex-append (take i l) (getD l i 0 ∷ []), append-nil (hexadecimal 2 (getD l i 0))) in
+        rw (whole, ← most) (row (2 * i) 2 at a b s t u _ _ so-far next)
+
+    pub octets-end : i ≤ length l → length l ≤ i → PartPut (2 * length l) s at (hexOctets l) t a
+    octets-end h k = let all : i ≡ length l = omega (arith, h, k) in rw (all, take-length l) at so-far
 
 -- ---- the line: a buffer is too small for it, or it is not
 module _ (least : ℕ) (s line : List ℕ) (small : length s < least) where
@@ -107,6 +146,6 @@ module _ (most least r : ℕ) (s t xs : List ℕ) (put : PartPut most s 0 xs t r
       let within : r ≤ length t = omega (arith, end, put .short, put .size, room, wide) in
       (within, sym (length-take-le r t within))
 
-pub ruleset parts = (text-part, decimal-part, field-put, refused-put)
+pub ruleset parts = (text-part, decimal-part, hex-part, octet-part, field-put, refused-put, octets-begin, octets-next, octets-end)
 
 pub ruleset lines = (small-answer, small-buffer, small-counts, line-answer, line-buffer, line-counts)

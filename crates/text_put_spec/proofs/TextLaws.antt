@@ -106,6 +106,11 @@ hex-width n k width h =
     let own : widthGo 16 (suc n) n ≤ suc (k - 1) = width-most 16 sixteen (suc n) n (k - 1) (rw size at (h .1)) in
     omega (arith, own, few, at-least, width-some n))
 
+-- a number of so many digits has no more in hex than these and those that it is asked to have
+pub hex-short : (n width k : ℕ) → n < 16 ^ suc k → min width 16 ≤ suc k → length (hexadecimal width n) ≤ suc k
+unfolding hexadecimal
+hex-short n width k small asked = rw (length-digits 16 (max (min width 16) (widthGo 16 (suc n) n)) n) (omega (arith, asked, width-most 16 sixteen (suc n) n k small))
+
 hex-is : (n k width : ℕ) → Fewest 16 (min (max width 1) 16) n k → digits 16 k n ≡ hexadecimal width n
 unfolding hexadecimal
 hex-is n k width h = ap (λ (w : ℕ). digits 16 w n) (hex-width n k width h)

@@ -12,6 +12,10 @@ use Rattle.text_put_spec.specs.Text.{decimal}
 abbrev pub refusedName : List ℕ
 refusedName = 114 ∷ 101 ∷ 102 ∷ 117 ∷ 115 ∷ 101 ∷ 100 ∷ 32 ∷ []
 
+-- `absent`
+abbrev pub absentName : List ℕ
+absentName = 97 ∷ 98 ∷ 115 ∷ 101 ∷ 110 ∷ 116 ∷ []
+
 -- the end of a line
 abbrev pub newline : List ℕ
 newline = 10 ∷ []

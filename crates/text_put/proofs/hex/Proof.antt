@@ -1,6 +1,7 @@
 -- `text_put::hex` meets its contract. Assumes nothing.
-use Rattle.text_put_spec.proofs.TextLaws.{texts}
 use borrow.Author.Needs.{needs}
+use Rattle.text_put_spec.proofs.PartLaws.{parts}
+use Rattle.text_put_spec.proofs.TextLaws.{texts}
 use Rattle.text_put.proofs.hex.Statement.{statement}
 use Rattle.text_put.proofs.hex.Tie as tie
 
@@ -20,7 +21,7 @@ same-length : tie.Need-same-length
 same-length c = search needs
 
 returns : tie.Need-returns
-returns c = search (needs, texts)
+returns c = search (needs, texts, parts)
 
 pub hex-spec : {M : Type 1} → statement M
 hex-spec =
