@@ -1,47 +1,59 @@
-// What the programs share that print the line of one frame: the frame comes in as raw bytes from standard input, or from the file that the
-// only argument names, and the line goes out (docs/PROGRAMS.md). What is not about a frame is told on standard error. No contract can say
-// what is read or written.
+// What the programs share that print what frames say: a frame comes in as raw bytes from standard input, or from a file that an argument
+// names, and the text goes out (docs/PROGRAMS.md). What is not about a frame is told on standard error. No contract can say what is read or
+// written. This file has what a program of one frame needs, src/two.rt what one of two frames does.
 ghost use lib.ListN.{length};
 ghost use Rattle.libc.specs.Io.{Moved, Status};
 use libc::STDERR_FILENO;
 use libc::STDIN_FILENO;
 use libc::STDOUT_FILENO;
 
+pub mod two;
+
 // One byte more than the longest frame is read, so that a longer input is refused for its length.
 pub const MOST_READ: usize = 126;
 // The count where no frame came in, as where a read failed.
-const NO_FRAME: isize = -1;
+pub(crate) const NO_FRAME: isize = -1;
 // What printing answers where the line is out.
-const PRINTED: i32 = 0;
+pub(crate) const PRINTED: i32 = 0;
 // What printing answers where a write failed.
 const NOT_PRINTED: i32 = -1;
 
 // Tells something on standard error.
-fn tell(text: &[u8]) {
+pub(crate) fn tell(text: &[u8]) {
     io::write_all(STDERR_FILENO, text);
 }
 
 // Tells what failed, with the system's reason for it.
-fn fail(program: &[u8], what: &[u8]) {
+pub(crate) fn fail(program: &[u8], what: &[u8]) {
     tell(program);
     tell(b": ");
     os::fail(what);
 }
 
-// Tells that an argument is unknown, and how the program is called.
-fn usage(program: &[u8], argument: &[u8]) {
+// Tells that an argument is unknown, and begins to tell how the program is called.
+pub(crate) fn unknown(program: &[u8], argument: &[u8]) {
     tell(program);
     tell(b": ");
     tell(argument);
     tell(b": unknown argument\nusage: ");
     tell(program);
+}
+
+// Begins to tell what is awaited at a terminal.
+pub(crate) fn hint(program: &[u8]) {
+    tell(program);
+    tell(b": standard input: a terminal; a frame is raw bytes");
+}
+
+// Tells that an argument is unknown, and how the program is called.
+fn usage(program: &[u8], argument: &[u8]) {
+    unknown(program, argument);
     tell(b" [FILE]; without FILE the frame comes from standard input\n");
 }
 
-// Tells what is awaited at a terminal.
-fn hint(program: &[u8]) {
-    tell(program);
-    tell(b": standard input: a terminal; a frame is raw bytes: ");
+// Tells how a frame comes in, behind a hint.
+fn ways(program: &[u8]) {
+    tell(b": ");
     tell(program);
     tell(b" FILE, or ");
     tell(program);
@@ -79,7 +91,7 @@ fn read_frame(fd: i32, frame: &mut [u8]) -> isize
 }
 
 // From a descriptor, which goes by a name.
-fn take_from(program: &[u8], fd: i32, name: &[u8], frame: &mut [u8]) -> isize
+pub(crate) fn take_from(program: &[u8], fd: i32, name: &[u8], frame: &mut [u8]) -> isize
     ensures { λ r. ⌜ Moved (length (now (frame .entry))) r ⌝ }
 {
     let got = read_frame(fd, frame);
@@ -94,11 +106,12 @@ fn take_input(program: &[u8], frame: &mut [u8]) -> isize
 {
     if libc::isatty(STDIN_FILENO) == 1 {
         hint(program);
+        ways(program);
     }
     take_from(program, STDIN_FILENO, b"standard input", frame)
 }
 
-fn take_file(program: &[u8], path: &[u8], frame: &mut [u8]) -> isize
+pub(crate) fn take_file(program: &[u8], path: &[u8], frame: &mut [u8]) -> isize
     ensures { λ r. ⌜ Moved (length (now (frame .entry))) r ⌝ }
 {
     let fd = os::open_read(path);
@@ -112,7 +125,7 @@ fn take_file(program: &[u8], path: &[u8], frame: &mut [u8]) -> isize
 }
 
 // An argument that begins with a hyphen names no file.
-fn is_option(argument: &[u8]) -> bool {
+pub(crate) fn is_option(argument: &[u8]) -> bool {
     if argument.len() == 0 {
         return false;
     }
@@ -147,12 +160,12 @@ pub fn take(program: &[u8], frame: &mut [u8]) -> isize
     take_argument(program, count - 1, frame)
 }
 
-// Prints the line of a program that is called so, and answers 0, or -1 where a write failed, which is told then.
-pub fn print(program: &[u8], line: &[u8]) -> i32
+// Prints the text of a program that is called so, and answers 0, or -1 where a write failed, which is told then.
+pub fn print(program: &[u8], text: &[u8]) -> i32
     ensures { λ r. ⌜ Status r ⌝ }
 {
     // What a disk tells only when a file is closed is a failed write too.
-    if !io::write_all(STDOUT_FILENO, line) || libc::close(STDOUT_FILENO) < 0 {
+    if !io::write_all(STDOUT_FILENO, text) || libc::close(STDOUT_FILENO) < 0 {
         fail(program, b"standard output");
         return NOT_PRINTED;
     }
