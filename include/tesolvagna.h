@@ -13,7 +13,7 @@
  * behind it says, and a bool is 0 or 1. With the length 0 a pointer may be NULL.
  *
  * The first field of an answer that can be a refusal is its number: TESOLVAGNA_DONE, or which rule the input broke. The
- * padding of a struct holds nothing: compare fields, not memory.
+ * padding of a struct holds nothing: compare fields, not memory, but for struct tesolvagna_content, which has none.
  */
 #ifndef TESOLVAGNA_H
 #define TESOLVAGNA_H
@@ -22,9 +22,9 @@
 #include <stddef.h>
 #include <stdint.h>
 
-/* The version of this interface, also as one number: 0x020100 is 2.1.0. */
+/* The version of this interface, also as one number: 0x020200 is 2.2.0. */
 #define TESOLVAGNA_VERSION_MAJOR 2
-#define TESOLVAGNA_VERSION_MINOR 1
+#define TESOLVAGNA_VERSION_MINOR 2
 #define TESOLVAGNA_VERSION_PATCH 0
 #define TESOLVAGNA_VERSION \
     ((TESOLVAGNA_VERSION_MAJOR << 16) | (TESOLVAGNA_VERSION_MINOR << 8) | TESOLVAGNA_VERSION_PATCH)
@@ -318,6 +318,97 @@ struct tesolvagna_written tesolvagna_beacon_write(uint8_t *buffer, size_t buffer
  * information, and if its network ID has no bytes. No number is given.
  */
 struct tesolvagna_span tesolvagna_beacon_network_id(const uint8_t *frame, size_t length);
+
+/* What a field of a record holds. */
+enum tesolvagna_content_kind {
+    /* Nothing: the field is absent. */
+    TESOLVAGNA_CONTENT_ABSENT = 0,
+    /* A number. A flag is 0 or 1. */
+    TESOLVAGNA_CONTENT_NUMBER = 1,
+    /* A short address, as a number. */
+    TESOLVAGNA_CONTENT_SHORT = 2,
+    /* An extended address, as a number. */
+    TESOLVAGNA_CONTENT_EXTENDED = 3,
+    /* Octets. */
+    TESOLVAGNA_CONTENT_OCTETS = 4
+};
+
+/*
+ * The fields of a record by their indices, in the order on air, with the names that the program `compare` prints. Those
+ * that can be absent say when; every other field is always there.
+ */
+enum tesolvagna_field {
+    /* sequence-number: absent without one */
+    TESOLVAGNA_FIELD_SEQUENCE_NUMBER = 0,
+    /* pan-id */
+    TESOLVAGNA_FIELD_PAN_ID = 1,
+    /* source: a short or an extended address */
+    TESOLVAGNA_FIELD_SOURCE = 2,
+    /* asn */
+    TESOLVAGNA_FIELD_ASN = 3,
+    /* join-metric */
+    TESOLVAGNA_FIELD_JOIN_METRIC = 4,
+    /* template-id */
+    TESOLVAGNA_FIELD_TEMPLATE_ID = 5,
+    /* The first of twelve timings, in the order of enum tesolvagna_timing: timing-cca-offset, timing-cca,
+     * timing-tx-offset, timing-rx-offset, timing-rx-ack-delay, timing-tx-ack-delay, timing-rx-wait, timing-ack-wait,
+     * timing-rx-tx, timing-max-ack, timing-max-tx, timing-timeslot-length. Absent if the template ID comes alone. */
+    TESOLVAGNA_FIELD_TIMINGS = 6,
+    /* hopping-sequence-id */
+    TESOLVAGNA_FIELD_HOPPING_SEQUENCE_ID = 18,
+    /* slotframe-handle */
+    TESOLVAGNA_FIELD_SLOTFRAME_HANDLE = 19,
+    /* slotframe-size */
+    TESOLVAGNA_FIELD_SLOTFRAME_SIZE = 20,
+    /* link-count */
+    TESOLVAGNA_FIELD_LINK_COUNT = 21,
+    /* The first of 48, three for each of 16 links: link-0-timeslot, link-0-channel-offset, link-0-options,
+     * link-1-timeslot and so on. Absent from link_count on. */
+    TESOLVAGNA_FIELD_LINKS = 22,
+    /* joining-r: the R flag; this and all that follow are absent without joining information */
+    TESOLVAGNA_FIELD_JOINING_R = 70,
+    /* joining-p: the P flag */
+    TESOLVAGNA_FIELD_JOINING_P = 71,
+    /* proxy-priority */
+    TESOLVAGNA_FIELD_PROXY_PRIORITY = 72,
+    /* rank-priority */
+    TESOLVAGNA_FIELD_RANK_PRIORITY = 73,
+    /* pan-priority */
+    TESOLVAGNA_FIELD_PAN_PRIORITY = 74,
+    /* proxy-address: an extended address, absent without the P flag too */
+    TESOLVAGNA_FIELD_PROXY_ADDRESS = 75,
+    /* network-id: octets */
+    TESOLVAGNA_FIELD_NETWORK_ID = 76,
+    /* How many fields there are. */
+    TESOLVAGNA_FIELDS = 77
+};
+
+/* The content of a field. What its kind does not use is 0. There is no padding: contents may be compared as memory. */
+struct tesolvagna_content {
+    /* enum tesolvagna_content_kind */
+    uint32_t kind;
+    /* How many octets there are, 0 for another kind. */
+    uint32_t length;
+    /* The number, or the address; 0 for another kind. */
+    uint64_t number;
+    /* The octets, as the record has them; all 0 for another kind. */
+    uint8_t octets[TESOLVAGNA_NETWORK_ID_BYTES];
+};
+
+/*
+ * A field of a record, to list what a beacon says, or in what two of them differ.
+ *
+ * beacon   the record
+ * index    enum tesolvagna_field; absent from TESOLVAGNA_FIELDS on
+ *
+ * Two records that were read, or that can be written, have the same contents at all indices exactly when they are equal.
+ * Their frames may differ all the same: in bits that are ignored, in elements that are skipped, in the order of elements
+ * and in the form of the timings.
+ *
+ * Nothing is refused. A record outside the limits of writing is listed as it is, with these exceptions: a sequence
+ * number that is not there is absent whatever its number, and of a short source only the lower 16 bits are taken.
+ */
+struct tesolvagna_content tesolvagna_beacon_field(struct tesolvagna_beacon beacon, size_t index);
 
 /*
  * Acknowledgements
@@ -684,6 +775,7 @@ TESOLVAGNA_SIZE(beacon, 232);
 TESOLVAGNA_SIZE(reading, 240);
 TESOLVAGNA_SIZE(written, 16);
 TESOLVAGNA_SIZE(span, 16);
+TESOLVAGNA_SIZE(content, 32);
 TESOLVAGNA_SIZE(ack, 40);
 TESOLVAGNA_SIZE(ack_reading, 48);
 TESOLVAGNA_SIZE(neighbour, 16);
