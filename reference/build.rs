@@ -21,7 +21,7 @@ fn main() {
 }
 
 /// The header's enumerators without their prefix, as constants: refusal numbers, actions, option bits and kinds of calls as
-/// bytes, all places and lengths as `usize`.
+/// bytes, kinds of contents as `u32`, all places and lengths as `usize`.
 fn take_constants(header: &Path) {
     println!("cargo::rerun-if-changed={}", header.display());
     let text = fs::read_to_string(header).expect("the C header can be read");
@@ -29,7 +29,11 @@ fn take_constants(header: &Path) {
     let mut kind = None;
     for line in text.lines().map(str::trim) {
         if let Some(name) = line.strip_prefix("enum tesolvagna_").and_then(|rest| rest.strip_suffix(" {")) {
-            kind = Some(if matches!(name, "number" | "action" | "option" | "call") { "u8" } else { "usize" });
+            kind = Some(match name {
+                "number" | "action" | "option" | "call" => "u8",
+                "content_kind" => "u32",
+                _ => "usize",
+            });
         } else if line == "};" {
             kind = None;
         } else if let (Some(kind), Some(rest)) = (kind, line.strip_prefix("TESOLVAGNA_")) {

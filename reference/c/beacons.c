@@ -1,6 +1,6 @@
 /*
- * Reads and writes beacons through the header, with records in which the fields of a struct differ. The exit status
- * is 0 if all answers are right.
+ * Reads and writes beacons through the header and lists their fields, with records in which the fields of a struct
+ * differ. The exit status is 0 if all answers are right.
  */
 #include "check.h"
 
@@ -251,6 +251,83 @@ static void refused_readings(void)
     check_reading("a byte longer", zeros, TESOLVAGNA_LONGEST_FRAME + 1, TESOLVAGNA_FRAME_TOO_LONG, &blank, none);
 }
 
+/* What a kind of content does not use is 0. */
+static void check_content(const char *name, const struct tesolvagna_beacon *beacon, size_t index, uint32_t kind,
+                          uint32_t length, uint64_t number, const uint8_t *octets)
+{
+    static const uint8_t none[TESOLVAGNA_NETWORK_ID_BYTES];
+    const struct tesolvagna_content content = tesolvagna_beacon_field(*beacon, index);
+
+    check(name, "kind", content.kind, kind);
+    check(name, "length", content.length, length);
+    check(name, "number", content.number, number);
+    check(name, "octets", (uint64_t)(memcmp(content.octets, octets == NULL ? none : octets, sizeof none) != 0), 0);
+}
+
+static void check_number(const char *name, const struct tesolvagna_beacon *beacon, size_t index, uint64_t number)
+{
+    check_content(name, beacon, index, TESOLVAGNA_CONTENT_NUMBER, 0, number, NULL);
+}
+
+static void check_absent(const char *name, const struct tesolvagna_beacon *beacon, size_t index)
+{
+    check_content(name, beacon, index, TESOLVAGNA_CONTENT_ABSENT, 0, 0, NULL);
+}
+
+/* All fields of the first example. */
+static void fields(void)
+{
+    const struct tesolvagna_beacon *beacon = &examples[0].beacon;
+    size_t i;
+
+    check_number("sequence number", beacon, TESOLVAGNA_FIELD_SEQUENCE_NUMBER, 0x5C);
+    check_number("PAN ID", beacon, TESOLVAGNA_FIELD_PAN_ID, 0xABCD);
+    check_content("extended source", beacon, TESOLVAGNA_FIELD_SOURCE, TESOLVAGNA_CONTENT_EXTENDED, 0,
+                  0x020000FFFE00002A, NULL);
+    check_number("ASN", beacon, TESOLVAGNA_FIELD_ASN, 0x0102030405);
+    check_number("join metric", beacon, TESOLVAGNA_FIELD_JOIN_METRIC, 29);
+    check_number("template ID", beacon, TESOLVAGNA_FIELD_TEMPLATE_ID, 7);
+    for (i = TESOLVAGNA_TIMING_CCA_OFFSET; i <= TESOLVAGNA_TIMING_MAX_ACK; i++)
+        check_number("timing", beacon, TESOLVAGNA_FIELD_TIMINGS + i, i + 1);
+    check_number("timing", beacon, TESOLVAGNA_FIELD_TIMINGS + TESOLVAGNA_TIMING_MAX_TX, 0x1000B);
+    check_number("timing", beacon, TESOLVAGNA_FIELD_TIMINGS + TESOLVAGNA_TIMING_TIMESLOT_LENGTH, 0x2000C);
+    check_number("hopping sequence ID", beacon, TESOLVAGNA_FIELD_HOPPING_SEQUENCE_ID, 8);
+    check_number("handle", beacon, TESOLVAGNA_FIELD_SLOTFRAME_HANDLE, 6);
+    check_number("size", beacon, TESOLVAGNA_FIELD_SLOTFRAME_SIZE, 101);
+    check_number("link count", beacon, TESOLVAGNA_FIELD_LINK_COUNT, 2);
+    for (i = 0; i < 6; i++)
+        check_number("link", beacon, TESOLVAGNA_FIELD_LINKS + i, 9 + i);
+    for (i = TESOLVAGNA_FIELD_LINKS + 6; i < TESOLVAGNA_FIELD_JOINING_R; i++)
+        check_absent("link that is not there", beacon, i);
+    check_number("R", beacon, TESOLVAGNA_FIELD_JOINING_R, 1);
+    check_number("P", beacon, TESOLVAGNA_FIELD_JOINING_P, 1);
+    check_number("proxy priority", beacon, TESOLVAGNA_FIELD_PROXY_PRIORITY, 16);
+    check_number("rank priority", beacon, TESOLVAGNA_FIELD_RANK_PRIORITY, 515);
+    check_number("PAN priority", beacon, TESOLVAGNA_FIELD_PAN_PRIORITY, 4);
+    check_content("proxy address", beacon, TESOLVAGNA_FIELD_PROXY_ADDRESS, TESOLVAGNA_CONTENT_EXTENDED, 0,
+                  0xF102030405060708, NULL);
+    check_content("network ID", beacon, TESOLVAGNA_FIELD_NETWORK_ID, TESOLVAGNA_CONTENT_OCTETS, 3, 0,
+                  beacon->joining.network_id);
+    check_absent("behind the last field", beacon, TESOLVAGNA_FIELDS);
+    check_absent("far behind it", beacon, SIZE_MAX);
+}
+
+/* Fields of the other examples that are not there, and a short source. */
+static void absent_fields(void)
+{
+    size_t i;
+
+    check_content("short source", &examples[1].beacon, TESOLVAGNA_FIELD_SOURCE, TESOLVAGNA_CONTENT_SHORT, 0, 7, NULL);
+    check_absent("no proxy address", &examples[1].beacon, TESOLVAGNA_FIELD_PROXY_ADDRESS);
+    check_absent("no sequence number", &examples[2].beacon, TESOLVAGNA_FIELD_SEQUENCE_NUMBER);
+    for (i = 0; i < TESOLVAGNA_TIMINGS; i++)
+        check_absent("no timings", &examples[2].beacon, TESOLVAGNA_FIELD_TIMINGS + i);
+    check_content("network ID of no bytes", &examples[2].beacon, TESOLVAGNA_FIELD_NETWORK_ID,
+                  TESOLVAGNA_CONTENT_OCTETS, 0, 0, NULL);
+    for (i = TESOLVAGNA_FIELD_JOINING_R; i <= TESOLVAGNA_FIELD_NETWORK_ID; i++)
+        check_absent("no joining information", &blank, i);
+}
+
 /* Writes into a buffer of so many bytes, part of a larger one. If it is done the frame is there; nothing else changes. */
 static void check_writing(const char *name, struct tesolvagna_beacon beacon, size_t buffer_length, uint8_t number,
                           const uint8_t *frame, size_t length)
@@ -323,5 +400,7 @@ int main(void)
     }
     refused_readings();
     refused_writings();
+    fields();
+    absent_fields();
     return verdict();
 }

@@ -81,6 +81,12 @@ int main(void)
     FIELD(span, offset, 0, 8);
     FIELD(span, length, 8, 8);
 
+    SIZE(content, 32);
+    FIELD(content, kind, 0, 4);
+    FIELD(content, length, 4, 4);
+    FIELD(content, number, 8, 8);
+    FIELD(content, octets, 16, 16);
+
     SIZE(ack, 40);
     FIELD(ack, has_sequence_number, 0, 1);
     FIELD(ack, sequence_number, 1, 1);

@@ -49,6 +49,7 @@ static uint8_t buffer[TESOLVAGNA_LONGEST_FRAME];
 static struct tesolvagna_beacon beacon;
 static struct tesolvagna_ack ack;
 static struct tesolvagna_table table;
+static size_t field;
 static uint64_t id;
 static const uint8_t *kinds, *flags;
 static const uint64_t *ids;
@@ -58,6 +59,7 @@ static size_t rows;
 static struct tesolvagna_reading reading;
 static struct tesolvagna_written written;
 static struct tesolvagna_span span;
+static struct tesolvagna_content content;
 static struct tesolvagna_ack_reading ack_reading;
 static struct tesolvagna_table_answer answer;
 static struct tesolvagna_evaluation evaluation;
@@ -76,6 +78,7 @@ static uint32_t number;
 CALL(beacon_read, reading = tesolvagna_beacon_read(frame, frame_length))
 CALL(beacon_write, written = tesolvagna_beacon_write(buffer, sizeof buffer, beacon))
 CALL(beacon_network_id, span = tesolvagna_beacon_network_id(frame, frame_length))
+CALL(beacon_field, content = tesolvagna_beacon_field(beacon, field))
 CALL(ack_read, ack_reading = tesolvagna_ack_read(frame, frame_length))
 CALL(ack_write, written = tesolvagna_ack_write(buffer, sizeof buffer, ack))
 CALL(table_init, table = tesolvagna_table_init())
@@ -203,6 +206,10 @@ static void beacons(void)
     beacon.slotframe.links[15].options = 256;
     make("options over 255", call_beacon_write, &written.number, TESOLVAGNA_OUT_OF_LIMITS);
     row("beacon_write", "", sizeof beacon, sizeof written);
+
+    for (field = 0; field <= TESOLVAGNA_FIELDS; field++)
+        make("field", call_beacon_field, NULL, 0);
+    row("beacon_field", "", sizeof beacon, sizeof content);
 }
 
 static void acks(void)

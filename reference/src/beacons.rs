@@ -118,12 +118,18 @@ pub fn random_bytes(random: &mut Random, length: usize) -> Vec<u8> {
     }
 }
 
-/// A beacon, and its parts in a form that reads as the same record: elements in another order and in several groups,
-/// elements that are skipped, bits that are ignored, bytes after the payload list. One in thirty has over 125 bytes.
+/// A beacon with room for other parts in its frame or without, and its parts in another form.
 pub fn free_form(random: &mut Random) -> (Beacon, Parts) {
     let longest = random.pick(&[50, 70, 90, 110, LONGEST_FRAME]);
     let beacon = random_beacon(random, longest);
-    let mut parts = house_form(&beacon);
+    let parts = form_of(random, &beacon);
+    (beacon, parts)
+}
+
+/// The parts of a beacon in a form that reads as the same record: elements in another order and in several groups,
+/// elements that are skipped, bits that are ignored, bytes after the payload list. One in thirty has over 125 bytes.
+pub fn form_of(random: &mut Random, beacon: &Beacon) -> Parts {
+    let mut parts = house_form(beacon);
     let length = match random.below(30) {
         0 => LONGEST_FRAME + random.between(1, 400) as usize,
         _ => LONGEST_FRAME,
@@ -168,7 +174,7 @@ pub fn free_form(random: &mut Random) -> (Beacon, Parts) {
             parts.tail = random_bytes(random, length);
         }
     }
-    (beacon, parts)
+    parts
 }
 
 /// A beacon's parts in the house form or another.

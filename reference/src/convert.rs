@@ -3,7 +3,15 @@
 
 use crate::ack::{self, Ack};
 use crate::ack_write;
-use crate::frame::{self, Address, Beacon, Check};
+use crate::fields::Content;
+use crate::frame::{self, Address, Beacon, Check, LONGEST_NETWORK_ID};
+use crate::header::{
+    CONTENT_ABSENT, CONTENT_EXTENDED, CONTENT_NUMBER, CONTENT_OCTETS, CONTENT_SHORT, FIELDS, FIELD_ASN,
+    FIELD_HOPPING_SEQUENCE_ID, FIELD_JOINING_P, FIELD_JOINING_R, FIELD_JOIN_METRIC, FIELD_LINKS, FIELD_LINK_COUNT,
+    FIELD_NETWORK_ID, FIELD_PAN_ID, FIELD_PAN_PRIORITY, FIELD_PROXY_ADDRESS, FIELD_PROXY_PRIORITY, FIELD_RANK_PRIORITY,
+    FIELD_SEQUENCE_NUMBER, FIELD_SLOTFRAME_HANDLE, FIELD_SLOTFRAME_SIZE, FIELD_SOURCE, FIELD_TEMPLATE_ID,
+    FIELD_TIMINGS,
+};
 use crate::interface as c;
 use crate::interface::Numbers;
 use crate::metric::{self, JoinMetric};
@@ -190,6 +198,72 @@ impl c::Written {
             Ok(length) => c::Written { number: 0, length },
             Err(refusal) => c::Written { number: refusal.number(), length: 0 },
         }
+    }
+}
+
+impl c::Content {
+    /// What a record has in a field.
+    pub fn of(content: &Content) -> c::Content {
+        let absent = c::Content { kind: CONTENT_ABSENT, ..c::Content::default() };
+        match content {
+            Content::Absent => absent,
+            Content::Number(number) => c::Content { kind: CONTENT_NUMBER, number: *number, ..absent },
+            Content::Address(address) => {
+                let (is_extended, number) = address_of(*address);
+                c::Content { kind: if is_extended { CONTENT_EXTENDED } else { CONTENT_SHORT }, number, ..absent }
+            }
+            Content::Octets(octets) => {
+                let mut padded = [0; LONGEST_NETWORK_ID];
+                padded[..octets.len()].copy_from_slice(octets);
+                c::Content { kind: CONTENT_OCTETS, length: octets.len() as u32, octets: padded, ..absent }
+            }
+        }
+    }
+}
+
+/// What C's form has in a field, also one that is no record's: the reference's answer, with the header's names of the
+/// fields.
+pub fn field(beacon: &c::Beacon, index: usize) -> c::Content {
+    let c::Beacon { synchronization, timeslot, slotframe, joining, .. } = beacon;
+    let content = |kind: u32, number: u64| c::Content { kind, number, ..c::Content::default() };
+    let number = |number: u64| content(CONTENT_NUMBER, number);
+    match index {
+        FIELD_SEQUENCE_NUMBER if beacon.has_sequence_number => number(beacon.sequence_number.into()),
+        FIELD_PAN_ID => number(beacon.pan_id.into()),
+        FIELD_SOURCE if beacon.source_is_extended => content(CONTENT_EXTENDED, beacon.source),
+        // Of a short one over 65535 the low 16 bits.
+        FIELD_SOURCE => content(CONTENT_SHORT, beacon.source & 0xFFFF),
+        FIELD_ASN => number(synchronization.asn),
+        FIELD_JOIN_METRIC => number(synchronization.join_metric.into()),
+        FIELD_TEMPLATE_ID => number(timeslot.template_id.into()),
+        FIELD_TIMINGS..FIELD_HOPPING_SEQUENCE_ID if timeslot.has_timings => {
+            number(timeslot.timings[index - FIELD_TIMINGS].into())
+        }
+        FIELD_HOPPING_SEQUENCE_ID => number(beacon.hopping_sequence_id.into()),
+        FIELD_SLOTFRAME_HANDLE => number(slotframe.handle.into()),
+        FIELD_SLOTFRAME_SIZE => number(slotframe.size.into()),
+        FIELD_LINK_COUNT => number(slotframe.link_count.into()),
+        FIELD_LINKS..FIELD_JOINING_R => {
+            let (place, of) = ((index - FIELD_LINKS) / 3, (index - FIELD_LINKS) % 3);
+            let c::Link { timeslot, channel_offset, options } = slotframe.links[place];
+            match place < usize::from(slotframe.link_count) {
+                true => number([timeslot, channel_offset, options][of].into()),
+                false => c::Content::default(),
+            }
+        }
+        FIELD_JOINING_R..FIELDS if !joining.present => c::Content::default(),
+        FIELD_JOINING_R => number(joining.router.into()),
+        FIELD_JOINING_P => number(joining.proxied.into()),
+        FIELD_PROXY_PRIORITY => number(joining.proxy_priority.into()),
+        FIELD_RANK_PRIORITY => number(joining.rank_priority.into()),
+        FIELD_PAN_PRIORITY => number(joining.pan_priority.into()),
+        FIELD_PROXY_ADDRESS if joining.proxied => content(CONTENT_EXTENDED, joining.proxy_address),
+        FIELD_NETWORK_ID => c::Content {
+            length: joining.network_id_length.into(),
+            octets: joining.network_id,
+            ..content(CONTENT_OCTETS, 0)
+        },
+        _ => c::Content::default(),
     }
 }
 

@@ -1,9 +1,11 @@
 //! Counts of what random cases reached, so that a test fails when its cases miss something.
 
 use crate::calls::CallList;
+use crate::fields::{Comparison, Content, Difference, NAMES};
 use crate::frame::{Address, Beacon, Check, LONGEST_FRAME, LONGEST_NETWORK_ID};
 use crate::frames::Kind;
 use crate::interface as c;
+use crate::pairs;
 use crate::records::{self, Shape};
 use crate::slot::MOST_LINKS;
 use crate::stability::Run;
@@ -494,5 +496,125 @@ impl WriteCoverage {
             }
         }
         println!("{pairs} pairs of limits, each at least {} times", self.together.values().min().unwrap_or(&0));
+    }
+}
+
+/// What pairs of frames that were compared reached.
+#[derive(Clone, Debug, Default)]
+pub struct PairCoverage {
+    kinds: Counts,
+    numbers: Counts,
+    fields: Counts,
+    alone: Counts,
+    contents: Counts,
+    lists: Counts,
+}
+
+impl PairCoverage {
+    /// Fields with which others always differ: the links, the proxy's address.
+    const NEVER_ALONE: [&str; 2] = ["link-count", "joining-p"];
+
+    /// Counts a pair and the reference's comparison.
+    pub fn add(&mut self, kind: pairs::Kind, first: &[u8], second: &[u8], comparison: &Comparison) {
+        self.kinds.add(format!("{kind:?}"));
+        let differences = match comparison {
+            Err([first, second]) => {
+                self.numbers.add(format!("first {first}"));
+                self.numbers.add(format!("second {second}"));
+                return;
+            }
+            Ok(differences) => differences,
+        };
+        if let [difference] = &differences[..] {
+            self.alone.add(&NAMES[difference.field]);
+        }
+        for difference in differences {
+            self.fields.add(&NAMES[difference.field]);
+            self.add_contents(difference);
+        }
+        self.lists.add(match differences.len() {
+            0 if first == second => "none, of one frame",
+            0 if first.len() == second.len() => "none, of frames of one length",
+            0 => "none, of frames of other lengths",
+            1 => "one",
+            2..=9 => "2 to 9",
+            10..=39 => "10 to 39",
+            40.. => "40 or more",
+        });
+    }
+
+    fn add_contents(&mut self, Difference { first, second, .. }: &Difference) {
+        self.contents.add(format!("{}, {}", content_name(first), content_name(second)));
+        match (first, second) {
+            (Content::Address(Address::Short(short)), Content::Address(Address::Extended(extended)))
+            | (Content::Address(Address::Extended(extended)), Content::Address(Address::Short(short))) => {
+                self.contents.add_if(u64::from(*short) == *extended, "short and extended of one number");
+            }
+            (Content::Absent, Content::Number(0)) | (Content::Number(0), Content::Absent) => {
+                self.contents.add("absent and the number 0");
+            }
+            (Content::Octets(first), Content::Octets(second)) => {
+                let zeros = [first, second].iter().all(|octets| octets.iter().all(|octet| *octet == 0));
+                self.contents.add_if(zeros, "octets that are zeros, of other lengths");
+                self.contents.add_if(first.len() == second.len(), "octets of one length");
+            }
+            _ => {}
+        }
+    }
+
+    /// Panics unless there was every kind of pair, and every number on both sides, field, field alone, pair of contents
+    /// and length of a list was met at least `least` times.
+    pub fn expect(&self, least: usize) {
+        self.kinds.expect("pairs", 20_000, &pairs::Kind::ALL.map(|kind| format!("{kind:?}")));
+        let numbers = (0..=8).flat_map(|number| [format!("first {number}"), format!("second {number}")]);
+        self.numbers.expect("numbers where one is refused", least, &numbers.collect::<Vec<_>>());
+        self.fields.expect("fields that differ", least, &NAMES);
+        let alone = NAMES.iter().filter(|name| !PairCoverage::NEVER_ALONE.contains(&name.as_str()));
+        self.alone.expect("fields that differ alone", least, &alone.collect::<Vec<_>>());
+        self.contents.expect(
+            "contents of fields that differ",
+            least,
+            &[
+                "absent, number",
+                "number, absent",
+                "number, number",
+                "short, short",
+                "short, extended",
+                "extended, short",
+                "extended, extended",
+                "absent, extended",
+                "extended, absent",
+                "absent, octets",
+                "octets, absent",
+                "octets, octets",
+                "short and extended of one number",
+                "absent and the number 0",
+                "octets that are zeros, of other lengths",
+                "octets of one length",
+            ],
+        );
+        self.lists.expect(
+            "fields that differ, in a pair",
+            least,
+            &[
+                "none, of one frame",
+                "none, of frames of one length",
+                "none, of frames of other lengths",
+                "one",
+                "2 to 9",
+                "10 to 39",
+                "40 or more",
+            ],
+        );
+    }
+}
+
+fn content_name(content: &Content) -> &'static str {
+    match content {
+        Content::Absent => "absent",
+        Content::Number(_) => "number",
+        Content::Address(Address::Short(_)) => "short",
+        Content::Address(Address::Extended(_)) => "extended",
+        Content::Octets(_) => "octets",
     }
 }

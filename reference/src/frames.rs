@@ -82,18 +82,10 @@ pub fn visit_all(visit: &mut dyn FnMut(Kind, &[u8])) {
         visit(Kind::FreeForm, &free_form(&mut random).1.bytes());
     }
     for _ in 0..600_000 {
-        let mut parts = any_form(&mut random);
-        for _ in 0..random.pick(&[1, 1, 1, 2, 2, 3]) {
-            break_parts(&mut random, &mut parts);
-        }
-        visit(Kind::FaultyParts, &parts.bytes());
+        visit(Kind::FaultyParts, &faulty_parts(&mut random));
     }
     for _ in 0..300_000 {
-        let (mut frame, descriptors) = any_form(&mut random).bytes_and_descriptors();
-        for _ in 0..random.pick(&[1, 1, 2]) {
-            break_bytes(&mut random, &mut frame, &descriptors);
-        }
-        visit(Kind::FaultyBytes, &frame);
+        visit(Kind::FaultyBytes, &faulty_bytes(&mut random));
     }
     for _ in 0..100_000 {
         let mut frame = any_form(&mut random).bytes();
@@ -106,6 +98,24 @@ pub fn visit_all(visit: &mut dyn FnMut(Kind, &[u8])) {
         let length = random.below(160) as usize;
         visit(Kind::Random, &random_bytes(&mut random, length));
     }
+}
+
+/// A beacon with damaged parts. Most are refused.
+pub fn faulty_parts(random: &mut Random) -> Vec<u8> {
+    let mut parts = any_form(random);
+    for _ in 0..random.pick(&[1, 1, 1, 2, 2, 3]) {
+        break_parts(random, &mut parts);
+    }
+    parts.bytes()
+}
+
+/// A beacon with damaged bytes. Most are refused.
+pub fn faulty_bytes(random: &mut Random) -> Vec<u8> {
+    let (mut frame, descriptors) = any_form(random).bytes_and_descriptors();
+    for _ in 0..random.pick(&[1, 1, 2]) {
+        break_bytes(random, &mut frame, &descriptors);
+    }
+    frame
 }
 
 /// The frame and all its beginnings, from the whole frame down.

@@ -189,6 +189,14 @@ structs! {
         pub length: usize,
     }
 
+    /// The content of a record's field. The default is that of an absent one, all 0.
+    pub struct Content ("content") {
+        pub kind: u32,
+        pub length: u32,
+        pub number: u64,
+        pub octets: [u8; NETWORK_ID_BYTES],
+    }
+
     /// An acknowledgement's record. The default is the blank record, all 0.
     pub struct Ack ("ack") {
         pub has_sequence_number: bool,

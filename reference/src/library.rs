@@ -2,7 +2,8 @@
 
 use crate::convert::Reply;
 use crate::interface::{
-    Ack, AckReading, Beacon, Evaluation, Link, Metric, Reading, Replay, Slot, Span, Table, TableAnswer, Written,
+    Ack, AckReading, Beacon, Content, Evaluation, Link, Metric, Reading, Replay, Slot, Span, Table, TableAnswer,
+    Written,
 };
 use crate::log::Log;
 use crate::table::Call;
@@ -15,6 +16,8 @@ unsafe extern "C" {
     pub unsafe fn tesolvagna_beacon_write(buffer: *mut u8, buffer_length: usize, beacon: Beacon) -> Written;
 
     pub unsafe fn tesolvagna_beacon_network_id(frame: *const u8, length: usize) -> Span;
+
+    safe fn tesolvagna_beacon_field(beacon: Beacon, index: usize) -> Content;
 
     pub unsafe fn tesolvagna_ack_read(frame: *const u8, length: usize) -> AckReading;
 
@@ -76,6 +79,11 @@ pub fn write(beacon: &Beacon, buffer: &mut [u8]) -> Written {
 pub fn network_id(frame: &[u8]) -> Span {
     // SAFETY: as above.
     unsafe { tesolvagna_beacon_network_id(frame.as_ptr(), frame.len()) }
+}
+
+/// What a record has in a field.
+pub fn field(beacon: &Beacon, index: usize) -> Content {
+    tesolvagna_beacon_field(*beacon, index)
 }
 
 /// Reads a frame as an acknowledgement.

@@ -6,8 +6,8 @@ use reference::worked;
 
 const ACK: Program = Program {
     name: "ack",
-    example: "examples/ack.frame",
-    line: "seq absent pan 4660 destination short 7 source short 1 correction -10 acknowledged yes\n",
+    example: &["examples/ack.frame"],
+    answer: "seq absent pan 4660 destination short 7 source short 1 correction -10 acknowledged yes\n",
 };
 
 /// The acknowledgement of most tests.
@@ -79,7 +79,7 @@ impl Said {
 #[test]
 fn an_accepted_frame() {
     let shortest = worked::bytes(SHORTEST);
-    assert_eq!(ACK.run(&[&shortest]), ACK.line);
+    assert_eq!(ACK.run(&[&shortest]), ACK.answer);
     let said = Said {
         sequence: None,
         pan: 0x1234,
@@ -88,7 +88,7 @@ fn an_accepted_frame() {
         correction: -10,
         nack: false,
     };
-    assert_eq!((said.frame(), said.line()), (shortest, ACK.line.to_string()));
+    assert_eq!((said.frame(), said.line()), (shortest, ACK.answer.to_string()));
 }
 
 /// Every form of the fields, at the ends of their ranges.
@@ -152,7 +152,7 @@ fn lengths_around_the_longest_frame() {
     // The header list ends; what follows does not matter.
     long.extend([0x80, 0x3F]);
     long.resize(100_000, 0xA5);
-    assert_eq!(ACK.run(&[&long[..125]]), ACK.line);
+    assert_eq!(ACK.run(&[&long[..125]]), ACK.answer);
     for length in [126, 127, 300, 100_000] {
         assert_eq!(ACK.run(&[&long[..length]]), "refused 1\n", "{length} bytes");
     }
@@ -163,7 +163,7 @@ fn input_that_comes_in_pieces() {
     let shortest = worked::bytes(SHORTEST);
     for at in [1, 8, 11] {
         let (first, second) = shortest.split_at(at);
-        assert_eq!(ACK.run(&[first, second]), ACK.line, "in two at {at}");
+        assert_eq!(ACK.run(&[first, second]), ACK.answer, "in two at {at}");
     }
 }
 
@@ -174,7 +174,7 @@ fn the_example_as_text() {
 
 #[test]
 fn a_file_by_name() {
-    ACK.reads_a_file_by_name();
+    ACK.reads_files_by_name();
 }
 
 #[test]

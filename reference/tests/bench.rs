@@ -6,7 +6,7 @@ use reference::worked;
 use std::process::Command;
 
 const BENCH: Program =
-    Program { name: "bench", example: "examples/minimal.frame", line: "asn 256 metric 2 size 11 links 1\n" };
+    Program { name: "bench", example: &["examples/minimal.frame"], answer: "asn 256 metric 2 size 11 links 1\n" };
 
 /// The line that the reference gives.
 fn line(frame: &[u8]) -> String {
@@ -30,7 +30,7 @@ fn the_worked_frames() {
 #[test]
 fn every_cut_of_a_beacon() {
     let minimal = worked::bytes(worked::MINIMAL);
-    assert_eq!(BENCH.run(&[&minimal]), BENCH.line);
+    assert_eq!(BENCH.run(&[&minimal]), BENCH.answer);
     for length in 0..minimal.len() {
         assert_eq!(BENCH.run(&[&minimal[..length]]), line(&minimal[..length]), "{length} bytes");
     }
@@ -42,7 +42,7 @@ fn lengths_around_the_longest_frame() {
     // The payload list ends; what follows does not matter.
     long.extend([0x00, 0xF8]);
     long.resize(100_000, 0xA5);
-    assert_eq!(BENCH.run(&[&long[..125]]), BENCH.line);
+    assert_eq!(BENCH.run(&[&long[..125]]), BENCH.answer);
     for length in [126, 127, 300, 100_000] {
         assert_eq!(BENCH.run(&[&long[..length]]), "refused 1\n", "{length} bytes");
     }
@@ -53,7 +53,7 @@ fn input_that_comes_in_pieces() {
     let minimal = worked::bytes(worked::MINIMAL);
     for at in [1, 10, 37] {
         let (first, second) = minimal.split_at(at);
-        assert_eq!(BENCH.run(&[first, second]), BENCH.line, "in two at {at}");
+        assert_eq!(BENCH.run(&[first, second]), BENCH.answer, "in two at {at}");
     }
     let mut long = minimal.clone();
     long.resize(126, 0);
@@ -67,7 +67,7 @@ fn the_example_as_text() {
 
 #[test]
 fn a_file_by_name() {
-    BENCH.reads_a_file_by_name();
+    BENCH.reads_files_by_name();
 }
 
 #[test]

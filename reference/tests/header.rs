@@ -112,7 +112,7 @@ fn layout() -> Vec<String> {
         lines.push(format!("{name}  0 {size}"));
         lines.extend(fields.iter().map(|(field, offset, size)| format!("{name} {field} {offset} {size}")));
     }
-    assert_eq!(STRUCTS.len(), 18);
+    assert_eq!(STRUCTS.len(), 19);
     lines
 }
 

@@ -3,14 +3,16 @@
 //! tests must fail.
 
 use reference::header::{
-    CALL_ADVERTISE, CALL_EVALUATE, CALL_FORGET, CALL_REPORT, DONE, LISTEN, OUT_OF_LIMITS, SLEEP, TABLE_FULL,
+    CALL_ADVERTISE, CALL_EVALUATE, CALL_FORGET, CALL_REPORT, CONTENT_ABSENT, CONTENT_EXTENDED, CONTENT_NUMBER,
+    CONTENT_OCTETS, CONTENT_SHORT, DONE, FIELDS, FIELD_JOINING_P, FIELD_JOINING_R, FIELD_NETWORK_ID,
+    FIELD_PROXY_ADDRESS, FIELD_SEQUENCE_NUMBER, FIELD_SOURCE, FIELD_TIMINGS, LISTEN, OUT_OF_LIMITS, SLEEP, TABLE_FULL,
     TIMING_ACK_WAIT, TIMING_CCA, TIMING_CCA_OFFSET, TIMING_MAX_ACK, TIMING_MAX_TX, TIMING_RX_ACK_DELAY,
     TIMING_RX_OFFSET, TIMING_RX_TX, TIMING_RX_WAIT, TIMING_TIMESLOT_LENGTH, TIMING_TX_ACK_DELAY, TIMING_TX_OFFSET,
     TRANSMIT, UNKNOWN_NEIGHBOUR,
 };
 use reference::interface::{
-    Ack, AckReading, Beacon, Evaluation, Joining, Link, Metric, Neighbour, Numbers, Reading, Replay, Slot, Slotframe,
-    Span, Synchronization, Table, TableAnswer, Timeslot, Written,
+    Ack, AckReading, Beacon, Content, Evaluation, Joining, Link, Metric, Neighbour, Numbers, Reading, Replay, Slot,
+    Slotframe, Span, Synchronization, Table, TableAnswer, Timeslot, Written,
 };
 use reference::library;
 use reference::worked;
@@ -256,6 +258,39 @@ fn fields_outside_their_limits_are_refused() {
         let mut buffer = [0x55; 125];
         let written = library::write(&record, &mut buffer);
         assert_eq!((written, buffer), (Written { number: OUT_OF_LIMITS, length: 0 }, [0x55; 125]), "{name}, outside");
+    }
+}
+
+/// All fields of the first record, each with its content, and those of the other two that are not there.
+#[test]
+fn fields_have_their_contents() {
+    let content = |kind, number| Content { kind, number, ..Content::default() };
+    let number = |number| content(CONTENT_NUMBER, number);
+    let [Example { beacon, .. }, Example { beacon: second, .. }, Example { beacon: third, .. }] = examples();
+    let mut expected = vec![number(0x5C), number(0xABCD), content(CONTENT_EXTENDED, 0x0200_00FF_FE00_002A)];
+    expected.extend([0x01_0203_0405, 29, 7].map(number));
+    expected.extend([1, 2, 3, 4, 5, 6, 7, 8, 9, 10, 0x1000B, 0x2000C].map(number));
+    expected.extend([8, 6, 101, 2].map(number));
+    expected.extend([9, 10, 11, 12, 13, 14].map(number));
+    expected.extend([Content::default(); 42]);
+    expected.extend([1, 1, 16, 0x203, 4].map(number));
+    expected.push(content(CONTENT_EXTENDED, 0xF102_0304_0506_0708));
+    expected.push(Content { length: 3, octets: beacon.joining.network_id, ..content(CONTENT_OCTETS, 0) });
+    expected.push(Content::default());
+    let found: Vec<Content> = (0..=FIELDS).map(|index| library::field(&beacon, index)).collect();
+    assert_eq!(found, expected);
+
+    for (beacon, index, expected) in [
+        (second, FIELD_SOURCE, content(CONTENT_SHORT, 7)),
+        (second, FIELD_JOINING_P, number(0)),
+        (second, FIELD_PROXY_ADDRESS, content(CONTENT_ABSENT, 0)),
+        (third, FIELD_SEQUENCE_NUMBER, content(CONTENT_ABSENT, 0)),
+        (third, FIELD_TIMINGS, content(CONTENT_ABSENT, 0)),
+        (third, FIELD_JOINING_R, number(0)),
+        (third, FIELD_NETWORK_ID, content(CONTENT_OCTETS, 0)),
+        (Beacon::default(), FIELD_NETWORK_ID, content(CONTENT_ABSENT, 0)),
+    ] {
+        assert_eq!(library::field(&beacon, index), expected, "field {index}");
     }
 }
 
