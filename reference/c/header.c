@@ -237,7 +237,7 @@ static void logs(void)
 
 int main(void)
 {
-    check("version", "number", TESOLVAGNA_VERSION, 0x020100);
+    check("version", "number", TESOLVAGNA_VERSION, 0x020200);
     slots();
     ranks();
     calls();

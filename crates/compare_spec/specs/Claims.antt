@@ -14,7 +14,7 @@ use Rattle.eb_read_spec.specs.Claims.{Bytes}
 use Rattle.eb_read_spec.specs.Witnesses.{shortestRecord}
 use Rattle.eb_round_trip_spec.specs.ReadBack.{Writable}
 use Rattle.eb_fields_spec.specs.Content.{numberContent, addressContent}
-use Rattle.eb_fields_spec.specs.Fields.{fields, contentAt, nameIn, nameAt}
+use Rattle.eb_fields_spec.specs.Fields.{fields, fieldCount, contentAt, nameIn, nameAt}
 use Rattle.compare_spec.specs.declared.Difference.{Difference}
 use Rattle.compare_spec.specs.Decide.{Differs}
 use Rattle.compare_spec.specs.Compare.{differences, blankDifference, compared}
@@ -57,9 +57,9 @@ InOrder =
 abbrev pub ListedWhenBothDone : Type 0
 ListedWhenBothDone = (one other : ReadAnswer) → (compared one other .differences .listed ≡ true) ↔ ((one .number ≡ done) × (other .number ≡ done))
 
--- every record has 77 fields, and the same names in the same order
+-- every record has as many fields, with the same names in the same order
 abbrev pub NamesStandInEveryList : Type 0
-NamesStandInEveryList = (beacon : Beacon) → (length (fields beacon) ≡ 77) × ((place : ℕ) → nameIn (fields beacon) place ≡ nameAt place)
+NamesStandInEveryList = (beacon : Beacon) → (length (fields beacon) ≡ fieldCount) × ((place : ℕ) → nameIn (fields beacon) place ≡ nameAt place)
 
 -- the record of the shortest frame with another PAN, and with an extended source of the same number
 abbrev pub another : Beacon

@@ -9,7 +9,7 @@ use Rattle.refusal.specs.Refusal.{done}
 use Rattle.eb_record_spec.specs.declared.Beacon.{Beacon}
 use Rattle.eb_read_spec.specs.declared.ReadAnswer.{ReadAnswer}
 use Rattle.eb_fields_spec.specs.Content.{absentContent}
-use Rattle.eb_fields_spec.specs.Fields.{Field, fields}
+use Rattle.eb_fields_spec.specs.Fields.{Field, fields, fieldCount}
 use Rattle.compare_spec.specs.declared.Difference.{Difference}
 use Rattle.compare_spec.specs.declared.Differences.{Differences}
 use Rattle.compare_spec.specs.declared.Comparison.{Comparison}
@@ -32,11 +32,11 @@ blankDifference = record { place = 0; first = absentContent; second = absentCont
 
 -- this list, which may be the list of none
 unfoldable pub listOf : List Difference → Differences
-listOf found = record { listed = true; count = length found; entries = found ++ replicate (77 - length found) blankDifference }
+listOf found = record { listed = true; count = length found; entries = found ++ replicate (fieldCount - length found) blankDifference }
 
 -- no list
 unfoldable pub noList : Differences
-noList = record { listed = false; count = 0; entries = replicate 77 blankDifference }
+noList = record { listed = false; count = 0; entries = replicate fieldCount blankDifference }
 
 -- what two readings come to: both numbers, and a list if both are done
 unfoldable pub compared : ReadAnswer → ReadAnswer → Comparison

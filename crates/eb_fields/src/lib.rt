@@ -69,10 +69,10 @@ fn sequence_number(value: SequenceNumber) -> Content
 }
 
 // A number, if the field is there.
-fn number_if(there: bool, value: u64) -> Content
-    ensures { λ r. ⌜ r ≡ contentIf there (numberContent value) ⌝ }
+fn number_if(is_there: bool, value: u64) -> Content
+    ensures { λ r. ⌜ r ≡ contentIf «is_there» (numberContent value) ⌝ }
 {
-    if there {
+    if is_there {
         return number(value);
     }
     absent()

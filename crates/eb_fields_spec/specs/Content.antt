@@ -32,7 +32,7 @@ abbrev pub octetsKind : ℕ
 octetsKind = 4
 
 -- ---- the contents
--- no octets
+-- what the octets of another kind are
 abbrev pub noOctets : List ℕ
 noOctets = replicate 16 0
 

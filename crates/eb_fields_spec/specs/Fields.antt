@@ -74,6 +74,7 @@ abbrev pub timingFields : TimeslotTemplate → ℕ → List (List ℕ) → List 
 timingFields template place [] = []
 timingFields template place (name ∷ names) = row name (timingContent template place) ∷ timingFields template (suc place) names
 
+-- the template ID, and all timings
 abbrev pub timeslotFields : TimeslotTemplate → List Field
 timeslotFields template = row templateName (numberContent (template .id)) ∷ timingFields template 0 timingNames
 
@@ -99,6 +100,7 @@ linkFields slotframe place (suc places) =
     ∷ row (linkFieldName place linkOptionsName) (linkContent slotframe place (linkAt slotframe place .options))
     ∷ linkFields slotframe (suc place) places
 
+-- handle, size and number of links, and all links
 abbrev pub slotframeFields : Slotframe → List Field
 slotframeFields slotframe =
     row handleName (numberContent (slotframe .handle))
@@ -127,6 +129,10 @@ fields beacon =
     ++ (hoppingFields (beacon .hopping)
     ++ (slotframeFields (beacon .slotframe)
     ++ joiningFields (beacon .joining)))))
+
+-- how many there are
+abbrev pub fieldCount : ℕ
+fieldCount = 77
 
 -- the content of the field at a place of a list
 abbrev pub contentIn : List Field → ℕ → Content
