@@ -136,8 +136,8 @@ static void run_table(uint64_t sender)
     const uint64_t second = sender + 1, deaf = sender + 2;
     struct tesolvagna_table table = evaluate(tesolvagna_table_init());
 
-    /* Ranks are advertised in RPL's messages, not in beacons. */
-    table = after("advertise", tesolvagna_table_advertise(table, sender, 512));
+    /* Ranks are advertised in RPL's messages, not in beacons. A tag joins through the first neighbour that it hears. */
+    table = evaluate(after("advertise", tesolvagna_table_advertise(table, sender, 512)));
     table = after("advertise", tesolvagna_table_advertise(table, second, 640));
     table = after("advertise", tesolvagna_table_advertise(table, deaf, 256));
     /* A report for each frame sent: how often it was, and whether it was acknowledged in the end. */

@@ -22,9 +22,9 @@
 #include <stddef.h>
 #include <stdint.h>
 
-/* The version of this interface, also as one number: 0x020200 is 2.2.0. */
+/* The version of this interface, also as one number: 0x020300 is 2.3.0. */
 #define TESOLVAGNA_VERSION_MAJOR 2
-#define TESOLVAGNA_VERSION_MINOR 2
+#define TESOLVAGNA_VERSION_MINOR 3
 #define TESOLVAGNA_VERSION_PATCH 0
 #define TESOLVAGNA_VERSION \
     ((TESOLVAGNA_VERSION_MAJOR << 16) | (TESOLVAGNA_VERSION_MINOR << 8) | TESOLVAGNA_VERSION_PATCH)
@@ -639,10 +639,13 @@ struct tesolvagna_table_answer tesolvagna_table_forget(struct tesolvagna_table t
  * Chooses the parent and gives the own rank, which is the parent's cost.
  *
  * The cost of a neighbour is its rank and `tesolvagna_increment` of its counters. A neighbour is eligible with a rank
- * of at least 256, at least 1 acknowledged, 3 * attempts at most 11 * acknowledged and a cost of at most 65534. The
- * best has the least cost, and among equals the lower identifier. The held parent is changed for the best if none is
- * held, if it is not eligible, or if its cost is more than 640 over the best one's. With no eligible neighbour no
- * parent is held and the own rank is 65535; that is no refusal.
+ * of at least 256, no attempts yet or at least 1 acknowledged, 3 * attempts at most 11 * acknowledged and a cost of at
+ * most 65534. The best has the least cost, and among equals the lower identifier. The held parent is changed for the
+ * best if none is held, if it is not eligible, or if its cost is more than 640 over the best one's. With no eligible
+ * neighbour no parent is held and the own rank is 65535; that is no refusal.
+ *
+ * So a fresh node joins through the first neighbour that advertises a rank of 256 to 64766, with that rank and 768 as
+ * its own. A neighbour whose first attempts fail is not eligible until one is acknowledged.
  *
  * number 0   done: the table has the parent, and nothing else of it is changed
  * number 8   the table is refused
@@ -735,8 +738,9 @@ uint8_t tesolvagna_channel(uint64_t asn, uint16_t channel_offset);
 
 /*
  * How much a neighbour adds to its rank, after so many attempts of which so many were acknowledged: the smallest whole
- * number that is not below 256 * (3 * attempts - 2 * acknowledged) / acknowledged. It is 0 where `acknowledged` is 0 or
- * 2 * acknowledged is over 3 * attempts. Nothing is refused.
+ * number that is not below 256 * (3 * attempts - 2 * acknowledged) / acknowledged, and 0 where 2 * acknowledged is over
+ * 3 * attempts. Where `acknowledged` is 0 it is 768 before the first attempt, and 0 after it; a neighbour that was
+ * tried and never acknowledged is not eligible. Nothing is refused.
  */
 uint32_t tesolvagna_increment(uint16_t attempts, uint16_t acknowledged);
 

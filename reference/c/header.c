@@ -89,6 +89,8 @@ static void ranks(void)
     check("join metric of 68352", "metric", metric.metric, 0);
     check("increment", "of 8 attempts, 7 acknowledged", tesolvagna_increment(8, 7), 366);
     check("increment", "of 7 attempts, 8 acknowledged", tesolvagna_increment(7, 8), 160);
+    check("increment", "before the first attempt", tesolvagna_increment(0, 0), 768);
+    check("increment", "of 1 attempt, none acknowledged", tesolvagna_increment(1, 0), 0);
 }
 
 static void check_table(const char *name, const struct tesolvagna_table *found, const struct tesolvagna_table *expected)
@@ -148,6 +150,13 @@ static void calls(void)
 
     set_neighbour(&table.neighbours[0], 7, 300, 0, 0);
     check_answer("first place", tesolvagna_table_advertise(tesolvagna_table_init(), 7, 300), TESOLVAGNA_DONE, &table);
+    full = table;
+    full.has_parent = true;
+    full.parent = 7;
+    check_evaluation("fresh parent", tesolvagna_table_evaluate(table), TESOLVAGNA_DONE, true, 1068, &full);
+    full = table;
+    set_neighbour(&table.neighbours[0], 7, 300, 1, 0);
+    check_answer("failed", tesolvagna_table_report(full, 7, 1, false), TESOLVAGNA_DONE, &table);
     full = table;
     set_neighbour(&table.neighbours[1], 9, 600, 0, 0);
     check_answer("second place", tesolvagna_table_advertise(full, 9, 600), TESOLVAGNA_DONE, &table);
@@ -237,7 +246,7 @@ static void logs(void)
 
 int main(void)
 {
-    check("version", "number", TESOLVAGNA_VERSION, 0x020200);
+    check("version", "number", TESOLVAGNA_VERSION, 0x020300);
     slots();
     ranks();
     calls();

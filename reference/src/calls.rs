@@ -25,6 +25,25 @@ pub enum Kind {
     Climb,
 }
 
+/// Which neighbours a list's table has.
+#[derive(Clone, Copy, Debug, PartialEq, Eq)]
+enum Links {
+    /// Those that the kind of list asks for.
+    Measured,
+    /// Most of them without an attempt yet.
+    Fresh,
+}
+
+impl Links {
+    /// Attempts and acknowledged of a neighbour: these, or none.
+    fn counters(self, random: &mut Random, measured: fn(&mut Random) -> (u64, u64)) -> (u64, u64) {
+        match self {
+            Links::Fresh if random.chance(60) => (0, 0),
+            _ => measured(random),
+        }
+    }
+}
+
 /// A list of calls and the table that the first of them gets.
 #[derive(Clone, Debug)]
 pub struct CallList {
@@ -33,7 +52,7 @@ pub struct CallList {
     pub calls: Vec<Call>,
 }
 
-/// A list of 1 to 60 calls.
+/// A list of 1 to 60 calls, half of them with fresh neighbours.
 pub fn random_calls(random: &mut Random) -> CallList {
     let length = random.between(1, LONGEST_LIST as u64) as usize;
     let kind = match random.below(100) {
@@ -45,27 +64,28 @@ pub fn random_calls(random: &mut Random) -> CallList {
         66..83 => Kind::Descent,
         _ => Kind::Climb,
     };
+    let links = if random.chance(50) { Links::Fresh } else { Links::Measured };
     match kind {
         Kind::Any => {
             let used = random.pick(&[0, 1, 2, 4, 8, 16, 31]);
-            any_calls(random, kind, used, length)
+            any_calls(random, kind, links, used, length)
         }
         Kind::Unsound => {
             let used = random.pick(&[2, 5, 31]);
-            let mut list = any_calls(random, kind, used, length);
+            let mut list = any_calls(random, kind, links, used, length);
             break_rule(random, &mut list.table);
             list
         }
-        Kind::Full => any_calls(random, kind, PLACES, length),
-        Kind::Equals => equal_calls(random, length),
-        Kind::Steady => steady_calls(random, length),
-        Kind::Descent | Kind::Climb => stairs(random, kind, length),
+        Kind::Full => any_calls(random, kind, links, PLACES, length),
+        Kind::Equals => equal_calls(random, links, length),
+        Kind::Steady => steady_calls(random, links, length),
+        Kind::Descent | Kind::Climb => stairs(random, kind, links, length),
     }
 }
 
 fn random_rank(random: &mut Random) -> u16 {
     match random.below(10) {
-        0..3 => random.pick(&[0, 255, 256, 257, 65278, 65279, 65534, 65535]),
+        0..3 => random.pick(&[0, 255, 256, 257, 64766, 64767, 65278, 65279, 65534, 65535]),
         3..8 => random.between(256, 4000) as u16,
         _ => random.number() as u16,
     }
@@ -123,13 +143,13 @@ fn scattered(random: &mut Random, neighbours: &[Place]) -> Table {
 }
 
 /// Calls on the table's neighbours, and now and then on one that it does not have.
-fn any_calls(random: &mut Random, kind: Kind, used: usize, length: usize) -> CallList {
+fn any_calls(random: &mut Random, kind: Kind, links: Links, used: usize, length: usize) -> CallList {
     // Three more than stand in the table.
     let known = identifiers(random, used + 3);
     let neighbours: Vec<Place> = known[..used]
         .iter()
         .map(|identifier| {
-            let (attempts, acknowledged) = random_counters(random);
+            let (attempts, acknowledged) = links.counters(random, random_counters);
             Place { used: true, identifier: *identifier, rank: random_rank(random), attempts, acknowledged }
         })
         .collect();
@@ -183,16 +203,18 @@ fn break_rule(random: &mut Random, table: &mut Table) {
     }
 }
 
-/// Neighbours that all cost their rank plus 256, at few ranks.
-fn equal_calls(random: &mut Random, length: usize) -> CallList {
-    const RANKS: [u16; 5] = [256, 256 + 640, 256 + 641, 256 + 1281, 256 + 1282];
+/// Neighbours that cost their rank plus 256, at few ranks; a fresh one costs 512 more, which other ranks make up for.
+fn equal_calls(random: &mut Random, links: Links, length: usize) -> CallList {
+    const STEPS: [u16; 5] = [0, 640, 641, 1281, 1282];
+    let higher = if links == Links::Fresh { &[256, 256 + 512][..] } else { &[256] };
+    let ranks: Vec<u16> = higher.iter().flat_map(|rank| STEPS.map(|step| rank + step)).collect();
     let used = random.between(2, 10) as usize;
     let known = identifiers(random, used);
     let neighbours: Vec<Place> = known
         .iter()
         .map(|identifier| {
-            let rank = random.pick(&RANKS);
-            Place { used: true, identifier: *identifier, rank, attempts: 1, acknowledged: 1 }
+            let (attempts, acknowledged) = links.counters(random, |_| (1, 1));
+            Place { used: true, identifier: *identifier, rank: random.pick(&ranks), attempts, acknowledged }
         })
         .collect();
     let mut table = scattered(random, &neighbours);
@@ -203,7 +225,7 @@ fn equal_calls(random: &mut Random, length: usize) -> CallList {
         .map(|_| {
             let identifier = random.pick(&known);
             match random.below(100) {
-                0..45 => Call::Advertise { identifier, rank: random.pick(&RANKS) },
+                0..45 => Call::Advertise { identifier, rank: random.pick(&ranks) },
                 45..50 => Call::Report { identifier, attempts: 1, acknowledged: true },
                 50..52 => Call::Forget { identifier },
                 _ => Call::Evaluate,
@@ -214,7 +236,7 @@ fn equal_calls(random: &mut Random, length: usize) -> CallList {
 }
 
 /// Good links, one of them held, and calls that move their ranks a little.
-fn steady_calls(random: &mut Random, length: usize) -> CallList {
+fn steady_calls(random: &mut Random, links: Links, length: usize) -> CallList {
     let used = random.between(2, 12) as usize;
     let known = identifiers(random, used);
     let middle = random.between(1000, 60000);
@@ -222,7 +244,7 @@ fn steady_calls(random: &mut Random, length: usize) -> CallList {
     let neighbours: Vec<Place> = known
         .iter()
         .map(|identifier| {
-            let (attempts, acknowledged) = good_counters(random);
+            let (attempts, acknowledged) = links.counters(random, good_counters);
             Place { used: true, identifier: *identifier, rank: near(random), attempts, acknowledged }
         })
         .collect();
@@ -279,15 +301,16 @@ impl Builder {
 
 /// Evaluations that each gain about 641. Before each, another neighbour than the held one comes to stand that much
 /// below it, while no third one stands below the held one; in a climb the held one rises first.
-fn stairs(random: &mut Random, kind: Kind, length: usize) -> CallList {
+fn stairs(random: &mut Random, kind: Kind, links: Links, length: usize) -> CallList {
     let used = random.between(2, 5) as usize;
     let known = identifiers(random, used);
     let top = if random.chance(33) { 65534 } else { random.between(3000, 65534) };
     let neighbours: Vec<Place> = known
         .iter()
         .map(|identifier| {
-            let (attempts, acknowledged) = random.pick(&[(1, 1), (8, 7), (100, 75), (255, 250), (11, 3)]);
-            let increment = increment(attempts, acknowledged).expect("acknowledged is not 0");
+            let measured = |random: &mut Random| random.pick(&[(1, 1), (8, 7), (100, 75), (255, 250), (11, 3)]);
+            let (attempts, acknowledged) = links.counters(random, measured);
+            let increment = increment(attempts, acknowledged).expect("fresh, or acknowledged");
             let rank = (i128::from(top) - increment) as u16;
             Place { used: true, identifier: *identifier, rank, attempts, acknowledged }
         })
@@ -343,20 +366,34 @@ fn noise_calls(random: &mut Random, builder: &mut Builder, known: &[u64], held: 
     }
 }
 
-/// The most changes without a rise: two neighbours take turns at standing exactly 641 below the held one, from the
-/// largest cost down to where no lower cost is eligible.
-pub fn longest_descent() -> (Table, Vec<Call>) {
+/// The most changes without a rise, of measured neighbours and of fresh ones. Two take turns at standing exactly 641 below
+/// the held one, from the largest cost down to where no lower cost is eligible. Fresh ones get down to 1024, so that a
+/// measured third one makes the last change.
+pub fn longest_descents() -> [(&'static str, Table, Vec<Call>); 2] {
+    [("measured", 1), ("fresh", 0)].map(|(name, attempts)| {
+        let mut builder = Builder::new(at_largest_cost(attempts));
+        while let Some(cost) = builder.held_cost() {
+            let next = if builder.table.held == Some(0) { u64::MAX } else { 0 };
+            if ![next, THIRD].into_iter().any(|identifier| builder.advertise_cost(identifier, cost - 641)) {
+                break;
+            }
+            builder.call(Call::Evaluate);
+        }
+        (name, builder.start, builder.calls)
+    })
+}
+
+/// The neighbour of a descent that is measured whatever the others are.
+const THIRD: u64 = 3;
+
+/// Neighbours 0, which is held, and 2^64 - 1, with so many attempts, all acknowledged, and the measured third one. All have
+/// the largest cost.
+fn at_largest_cost(attempts: u64) -> Table {
     let mut table = Table { held: Some(0), ..Table::default() };
-    for (index, identifier) in [0, u64::MAX].into_iter().enumerate() {
-        table.places[index] = Place { used: true, identifier, rank: 65278, attempts: 1, acknowledged: 1 };
+    for (index, (identifier, attempts)) in [(0, attempts), (u64::MAX, attempts), (THIRD, 1)].into_iter().enumerate() {
+        let increment = increment(attempts, attempts).expect("fresh, or acknowledged");
+        let rank = (65534 - increment) as u16;
+        table.places[index] = Place { used: true, identifier, rank, attempts, acknowledged: attempts };
     }
-    let mut builder = Builder::new(table);
-    let mut cost = 65534 - 641;
-    let mut next = u64::MAX;
-    while builder.advertise_cost(next, cost) {
-        builder.call(Call::Evaluate);
-        cost -= 641;
-        next = if next == 0 { u64::MAX } else { 0 };
-    }
-    (builder.start, builder.calls)
+    table
 }

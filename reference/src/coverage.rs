@@ -67,6 +67,7 @@ impl TableCoverage {
             if *call == Call::Evaluate && answer.number == 0 {
                 self.choices.add(choice_name(&table, &answer.table));
                 self.add_tie(&table, &answer.table);
+                self.add_fresh(&table, &answer.table);
             }
             table = answer.table;
         }
@@ -104,8 +105,11 @@ impl TableCoverage {
             any(&|place| place.attempts > 0 && 3 * place.attempts == 11 * place.acknowledged),
             "3t equal to 11a",
         );
-        counts.add_if(any(&|place| place.cost() == Some(65534)), "cost 65534");
-        counts.add_if(any(&|place| place.cost() == Some(65535)), "cost 65535");
+        for cost in [65534, 65535] {
+            let costs = |place: &Place| place.cost() == Some(cost);
+            counts.add_if(any(&|place| costs(place) && place.attempts > 0), format!("cost {cost}"));
+            counts.add_if(any(&|place| costs(place) && place.attempts == 0), format!("cost {cost}, fresh"));
+        }
         let gap = table.places.windows(2).any(|pair| !pair[0].used && pair[1].used);
         counts.add_if(gap, "free place before a used one");
     }
@@ -121,6 +125,21 @@ impl TableCoverage {
         let far = |place: &Place| ties(place) && place.identifier >> 63 != parent.identifier >> 63;
         self.choices.add_if(earlier, "tie, lower identifier in a later place");
         self.choices.add_if(table.places.iter().any(far), "tie, the other identifier from 2^63 on");
+    }
+
+    /// Counts an evaluation in which a fresh neighbour, without an attempt yet, plays a part.
+    fn add_fresh(&mut self, table: &Table, after: &Table) {
+        let fresh = |place: Option<&Place>| place.is_some_and(|place| place.attempts == 0);
+        let gone = |place: &Place| place.attempts > 0 && place.acknowledged == 0;
+        let (held, best, changed) = (table.held_place(), table.best(), table.held != after.held);
+        let gain = gain(table);
+        let counts = &mut self.choices;
+        counts.add_if(fresh(after.held_place()) && table.held.is_none(), "fresh first parent");
+        counts.add_if(fresh(best) && changed && gain == Some(641), "changed for a fresh best, gain of exactly 641");
+        counts.add_if(fresh(best) && !changed && gain == Some(640), "kept against a fresh best, gain of exactly 640");
+        counts.add_if(fresh(held) && !changed, "fresh parent kept");
+        counts.add_if(fresh(held) && changed, "fresh parent changed");
+        counts.add_if(held.is_some_and(gone) && changed, "parent tried and never acknowledged, left");
     }
 
     fn add_run(&mut self, run: &Run) {
@@ -159,7 +178,9 @@ impl TableCoverage {
                 "t 255",
                 "3t equal to 11a",
                 "cost 65534",
+                "cost 65534, fresh",
                 "cost 65535",
+                "cost 65535, fresh",
                 "free place before a used one",
                 "not sound, t over 255",
                 "not sound, a over t",
@@ -207,6 +228,12 @@ impl TableCoverage {
                 "parent kept, no gain",
                 "tie, lower identifier in a later place",
                 "tie, the other identifier from 2^63 on",
+                "fresh first parent",
+                "changed for a fresh best, gain of exactly 641",
+                "kept against a fresh best, gain of exactly 640",
+                "fresh parent kept",
+                "fresh parent changed",
+                "parent tried and never acknowledged, left",
             ],
         );
         self.lists.expect(
@@ -255,11 +282,15 @@ fn call_name(table: &Table, call: &Call, number: u8) -> String {
     }
 }
 
+/// How far the best neighbour's cost is below the held parent's, if the held one is eligible.
+fn gain(table: &Table) -> Option<i128> {
+    let cost = |place: Option<&Place>| place.filter(|place| place.eligible()).and_then(Place::cost);
+    cost(table.held_place()).zip(cost(table.best())).map(|(held, best)| held - best)
+}
+
 /// What an evaluation that was not refused did.
 fn choice_name(table: &Table, after: &Table) -> &'static str {
-    let cost = |place: Option<&Place>| place.filter(|place| place.eligible()).and_then(Place::cost);
-    let gain = cost(table.held_place()).zip(cost(table.best())).map(|(held, best)| held - best);
-    match (table.held, after.held, gain) {
+    match (table.held, after.held, gain(table)) {
         (None, None, _) => "no parent, none eligible",
         (Some(_), None, _) => "parent dropped, none eligible",
         (None, Some(_), _) => "first parent",

@@ -5,23 +5,27 @@ use crate::refusal::OUT_OF_LIMITS;
 pub const LEAST_RANK: u16 = 256;
 pub const LARGEST_COST: i128 = 65534;
 
-/// The smallest whole number not below 256 (3t - 2a) / a, for `attempts` t and `acknowledged` a; none when a is 0.
+/// What a neighbour adds to its rank before the first attempt: RFC 6552's default step of 3.
+pub const FRESH_INCREMENT: i128 = 3 * 256;
+
+/// The smallest whole number not below 256 (3t - 2a) / a, for `attempts` t and `acknowledged` a. Before the first attempt
+/// it is `FRESH_INCREMENT`; there is none after attempts of which none was acknowledged.
 pub fn increment(attempts: u64, acknowledged: u64) -> Option<i128> {
     let (t, a) = (i128::from(attempts), i128::from(acknowledged));
     if a == 0 {
-        return None;
+        return (t == 0).then_some(FRESH_INCREMENT);
     }
     let dividend = 256 * (3 * t - 2 * a);
     // Euclidean division rounds down for a positive divisor, so this rounds up.
     Some(-(-dividend).div_euclid(a))
 }
 
-/// Path cost through a neighbour: its rank plus the increment; none when nothing was acknowledged.
+/// Path cost through a neighbour: its rank plus the increment, if it has one.
 pub fn cost(rank: u16, attempts: u64, acknowledged: u64) -> Option<i128> {
     increment(attempts, acknowledged).map(|increment| i128::from(rank) + increment)
 }
 
-/// Whether a neighbour can be a parent.
+/// Whether a neighbour can be a parent. One that was tried and never acknowledged has no cost.
 pub fn eligible(rank: u16, attempts: u64, acknowledged: u64) -> bool {
     rank >= LEAST_RANK
         && 3 * i128::from(attempts) <= 11 * i128::from(acknowledged)
@@ -56,11 +60,12 @@ mod tests {
             (1, 1, 256),
             (11, 3, 2304),
             (255, 1, 195_328),
+            (0, 0, 768),
         ];
         for (t, a, expected) in cases {
             assert_eq!(increment(t, a), Some(expected), "t {t}, a {a}");
         }
-        assert_eq!(increment(0, 0), None);
+        assert_eq!(increment(1, 0), None);
         assert_eq!(increment(255, 0), None);
     }
 
@@ -84,7 +89,11 @@ mod tests {
             ("3t equal to 11a", 256, 11, 3, true),
             ("3t over 11a", 256, 12, 3, false),
             ("nothing acknowledged", 256, 1, 0, false),
-            ("never tried", 256, 0, 0, false),
+            ("never tried", 256, 0, 0, true),
+            ("never tried, rank 255", 255, 0, 0, false),
+            ("never tried, cost 65534", 64766, 0, 0, true),
+            ("never tried, cost 65535", 64767, 0, 0, false),
+            ("halved to nothing acknowledged", 256, 128, 0, false),
             ("rank 255", 255, 1, 1, false),
             ("rank 256", 256, 1, 1, true),
             ("cost 65534", 65278, 1, 1, true),
@@ -101,9 +110,9 @@ mod tests {
     fn costs_of_eligible_neighbours_lie_from_512_to_65534() {
         let (mut least, mut largest) = (i128::MAX, 0);
         for rank in (0..=600).chain(62000..=65535) {
-            for (t, a) in [(1, 1), (255, 255), (2, 1), (3, 1), (8, 7), (11, 3), (253, 69), (255, 70)] {
+            for (t, a) in [(0, 0), (1, 1), (255, 255), (2, 1), (3, 1), (8, 7), (11, 3), (253, 69), (255, 70)] {
                 if eligible(rank, t, a) {
-                    let cost = cost(rank, t, a).expect("a is at least 1");
+                    let cost = cost(rank, t, a).expect("an eligible neighbour has a cost");
                     least = least.min(cost);
                     largest = largest.max(cost);
                 }

@@ -18,7 +18,7 @@ pub struct Held {
     pub parent: Option<u64>,
     /// 0 without a parent.
     pub rank: u16,
-    /// None without a parent, and for one that never acknowledged.
+    /// None without a parent, and for one that was tried and never acknowledged.
     pub cost: Option<i128>,
     pub eligible: bool,
 }
@@ -109,7 +109,7 @@ impl Run {
 #[cfg(test)]
 mod tests {
     use super::*;
-    use crate::calls::{longest_descent, random_calls, Kind, LONGEST_LIST};
+    use crate::calls::{longest_descents, random_calls, Kind, LONGEST_LIST};
     use crate::coverage::TableCoverage;
     use crate::random::Random;
     use crate::table::{Answer, Place};
@@ -132,7 +132,7 @@ mod tests {
             .places
             .iter()
             .filter(|place| place.eligible())
-            .map(|place| (place.cost().expect("acknowledged is not 0"), place.identifier))
+            .map(|place| (place.cost().expect("an eligible neighbour has a cost"), place.identifier))
             .collect();
         if answer.number != 0 {
             assert_eq!((answer.number, own_rank), (8, 65535));
@@ -181,12 +181,13 @@ mod tests {
 
     /// The bound is met with equality by 101 changes and no rise, and the last cost leaves no room for one more.
     #[test]
-    fn longest_descent_has_101_changes() {
-        let (table, calls) = longest_descent();
-        let run = run(&table, &calls);
-        assert!(run.claim_applies());
-        assert_eq!((run.evaluations.len(), run.changes(), run.rises()), (101, 101, 0));
-        assert_eq!((run.first_cost(), run.last_cost(), run.slack()), (Some(65534), Some(793), Some(0)));
+    fn longest_descents_have_101_changes() {
+        for (name, table, calls) in longest_descents() {
+            let run = run(&table, &calls);
+            assert!(run.claim_applies(), "{name}");
+            assert_eq!((run.evaluations.len(), run.changes(), run.rises()), (101, 101, 0), "{name}");
+            assert_eq!((run.first_cost(), run.last_cost(), run.slack()), (Some(65534), Some(793), Some(0)), "{name}");
+        }
     }
 
     /// One neighbour, held. Each step is a rank that it advertises; an evaluation follows where the mark is set.
@@ -261,9 +262,10 @@ mod tests {
     #[test]
     fn kinds_of_lists_do_what_they_are_for() {
         let mut random = Random::new(0x5EED);
-        let (mut descents, mut descents_met, mut climbs, mut climbs_met) = (0, 0, 0, 0);
+        let (mut descents, mut descents_met, mut climbs, mut climbs_met, mut fresh) = (0, 0, 0, 0, 0);
         for _ in 0..10_000 {
             let list = random_calls(&mut random);
+            fresh += usize::from(list.table.places.iter().any(|place| place.used && place.attempts == 0));
             let run = run(&list.table, &list.calls);
             let met = run.claim_applies() && run.changes() > 0 && run.slack() == Some(0);
             match list.kind {
@@ -281,6 +283,8 @@ mod tests {
             }
         }
         println!("bound met with equality: {descents_met} of {descents} descents, {climbs_met} of {climbs} climbs");
+        println!("lists whose first table has a fresh neighbour: {fresh} of 10000");
+        assert!((5_000..7_000).contains(&fresh));
         assert!(descents > 1000 && descents_met * 2 > descents);
         assert!(climbs > 1000 && climbs_met * 2 > climbs);
     }

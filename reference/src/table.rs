@@ -246,12 +246,35 @@ mod tests {
     /// None eligible is no refusal, but a table that breaks a rule is.
     #[test]
     fn no_eligible_neighbour() {
-        let given = table(&[place(1, 65535, 1, 1), place(2, 256, 12, 3), place(3, 256, 0, 0)], Some(1));
+        let given =
+            table(&[place(1, 65535, 1, 1), place(2, 256, 12, 3), place(3, 256, 4, 0), place(4, 64767, 0, 0)], Some(1));
         let (number, after, own_rank) = given.evaluate();
         assert_eq!((number, &after, own_rank), (0, &Table { held: None, ..given.clone() }, 65535));
 
-        let broken = Table { held: Some(4), ..given };
+        let broken = Table { held: Some(5), ..given };
         assert_eq!(broken.evaluate(), (8, broken.clone(), 65535));
+    }
+
+    /// A fresh tag joins through the first neighbour it hears, measures it, changes for a fresh one, and leaves that when
+    /// its first attempt fails.
+    #[test]
+    fn fresh_neighbours_are_eligible() {
+        let (_, heard) = Table::default().advertise(1, 512);
+        let (_, joined, own_rank) = heard.evaluate();
+        assert_eq!((joined.held, own_rank), (Some(1), 512 + 768));
+        let (_, measured) = joined.report(1, 4, true);
+        // 512 + 2560.
+        assert_eq!((measured.places[0].cost(), measured.evaluate().1.held), (Some(3072), None));
+        let (_, measured) = measured.report(1, 1, true);
+        // 5 attempts, 2 acknowledged: 512 + 1408.
+        assert_eq!(measured.evaluate().2, 1920);
+        for (rank, expected) in [(1920 - 640 - 768, 1), (1920 - 641 - 768, 2)] {
+            let (_, offered) = measured.advertise(2, rank);
+            assert_eq!(offered.evaluate().1.held, Some(expected), "fresh neighbour of rank {rank}");
+        }
+        let (_, changed, _) = measured.advertise(2, 256).1.evaluate();
+        let (_, failed) = changed.report(2, 1, false);
+        assert_eq!((changed.held, failed.evaluate().1.held), (Some(2), Some(1)));
     }
 
     #[test]

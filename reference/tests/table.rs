@@ -1,7 +1,7 @@
 //! The neighbour table: the static library against the reference, on random lists of calls, on tables that are refused and
 //! on fixed values.
 
-use reference::calls::{longest_descent, random_calls, CallList, Kind, LONGEST_LIST};
+use reference::calls::{longest_descents, random_calls, CallList, Kind, LONGEST_LIST};
 use reference::convert::{self, Reply};
 use reference::coverage::{Counts, TableCoverage};
 use reference::interface as c;
@@ -146,8 +146,8 @@ fn check_list(name: &str, list: &CallList, log: &Log, outcomes: &mut Counts) -> 
     run
 }
 
-/// Of a list outside the claim: which of its costs the rules name. The others, of no parent and of one that never
-/// acknowledged, only the header does.
+/// Of a list outside the claim: which of its costs the rules name. The others, of no parent and of one that was tried and
+/// never acknowledged, only the header does.
 fn count_costs(run: &Run, outcomes: &mut Counts) {
     if run.evaluations.is_empty() {
         outcomes.add("no evaluation");
@@ -217,15 +217,16 @@ fn library_runs_lists_as_the_reference() {
 
 /// 101 changes without a rise, and the bound met with equality.
 #[test]
-fn longest_descent_through_the_library() {
-    let (table, calls) = longest_descent();
-    let log = Log::of(&calls);
-    let list = CallList { kind: Kind::Descent, table, calls };
-    check_list("longest descent", &list, &log, &mut Counts::default());
+fn longest_descents_through_the_library() {
+    for (name, table, calls) in longest_descents() {
+        let log = Log::of(&calls);
+        let list = CallList { kind: Kind::Descent, table, calls };
+        check_list(name, &list, &log, &mut Counts::default());
 
-    let replayed = replay(&c::Table::of(&list.table), &log);
-    let expected = Claim { evaluations: 101, changes: 101, rises: 0, first: 65534, last: 793 };
-    assert_eq!((replayed.number, replayed.applies, Claim::of(&replayed)), (0, true, expected));
+        let replayed = replay(&c::Table::of(&list.table), &log);
+        let expected = Claim { evaluations: 101, changes: 101, rises: 0, first: 65534, last: 793 };
+        assert_eq!((replayed.number, replayed.applies, Claim::of(&replayed)), (0, true, expected), "{name}");
+    }
 }
 
 /// So many calls on a sound table: a random list's, over and over.
@@ -241,7 +242,7 @@ fn long_list(random: &mut Random, kind: Kind, length: usize) -> CallList {
 
 /// The largest rises: of two neighbours the held one goes from the least cost to the largest while the other comes down.
 fn seesaw(length: usize) -> CallList {
-    let (table, _) = longest_descent();
+    let [(_, table, _), _] = longest_descents();
     let calls = (0..length).map(|index| {
         let (held, other) = if index / 3 % 2 == 0 { (0, u64::MAX) } else { (u64::MAX, 0) };
         match index % 3 {
@@ -526,6 +527,29 @@ fn eligible_with_all_counters() {
     found.expect("evaluations of one neighbour", 1000, &["own rank 65534", "parent", "none"]);
 }
 
+/// A neighbour advertised to the empty table becomes the parent at every rank that leaves a cost for it, and a failed report
+/// ends that.
+#[test]
+fn fresh_tags_join() {
+    let joined = |evaluation: &Reply| match evaluation {
+        Reply::Evaluation(evaluation) => {
+            evaluation.has_parent.then_some((evaluation.parent, u32::from(evaluation.rank)))
+        }
+        Reply::Call(_) => panic!("not an evaluation"),
+    };
+    for rank in 0..=u16::MAX {
+        let identifier = u64::from(rank) << 40;
+        let heard = Table::default().call(&Call::Advertise { identifier, rank }).table;
+        let expected = (256..=64766).contains(&rank).then_some((identifier, u32::from(rank) + 768));
+        assert_eq!(joined(&check_call(&heard, &Call::Evaluate)), expected, "rank {rank}");
+
+        let held = heard.call(&Call::Evaluate).table;
+        let attempts = 1 + u64::from(rank % 4);
+        let failed = held.call(&Call::Report { identifier, attempts, acknowledged: false }).table;
+        assert_eq!(joined(&check_call(&failed, &Call::Evaluate)), None, "rank {rank}, {attempts} attempts failed");
+    }
+}
+
 fn check_increment(attempts: u16, acknowledged: u16) {
     let expected = convert::increment(attempts, acknowledged);
     assert_eq!(library::increment(attempts, acknowledged), expected, "t {attempts}, a {acknowledged}");
@@ -564,7 +588,7 @@ const SIDES: [(&str, TableCall); 2] = [("library", library::call), ("reference",
 /// The rules' own examples; those of channels stand with the slot decision's tests.
 #[test]
 fn values_of_the_rules() {
-    for (t, a, increment) in [(100, 75, 512), (8, 7, 366), (1, 1, 256), (11, 3, 2304)] {
+    for (t, a, increment) in [(100, 75, 512), (8, 7, 366), (1, 1, 256), (11, 3, 2304), (0, 0, 768)] {
         assert_eq!(library::increment(t, a), increment, "library, t {t}, a {a}");
         assert_eq!(metric::increment(t.into(), a.into()), Some(increment.into()), "reference, t {t}, a {a}");
     }
@@ -594,7 +618,8 @@ fn values_of_the_rules() {
     let evaluations = [
         ("t 11, a 3", one(11, 3), None, Some(5), 2560),
         ("t 12, a 3", one(12, 3), None, None, 65535),
-        ("a 0", one(1, 0), None, None, 65535),
+        ("t 0, a 0", one(0, 0), None, Some(5), 1024),
+        ("t 1, a 0", one(1, 0), None, None, 65535),
         ("1408 held, 768 best", two(768), Some(5), Some(5), 1408),
         ("1408 held, 767 best", two(767), Some(5), Some(6), 767),
     ];

@@ -622,6 +622,7 @@ fn channels() {
 fn increments() {
     assert_eq!(library::increment(8, 7), 366);
     assert_eq!(library::increment(7, 8), 160);
+    assert_eq!(library::increment(0, 0), 768);
     assert_eq!(library::increment(1, 0), 0);
 }
 

@@ -3,7 +3,7 @@ ghost use mathlib.Core.Path.{_≡_};
 ghost use Rattle.nbr_metric_spec.specs.Metric.{increment};
 ghost use Rattle.nbr_metric_spec.specs.JoinMetric.{joinMetric};
 
-// The increment of a neighbour, 0 where none was acknowledged.
+// The increment of a neighbour: 768 before the first attempt, and 0 where attempts were made and none was acknowledged.
 #[no_mangle]
 pub extern "C" fn tesolvagna_increment(attempts: u16, acked: u16) -> u32
     ensures { λ r. ⌜ r ≡ increment attempts acked ⌝ }

@@ -2,7 +2,7 @@
 use nbr_metric_spec::Place;
 ghost use mathlib.Core.Path.{_≡_};
 ghost use Prim.Native.Nat.{_<_, _≤_, _^_};
-ghost use Rattle.nbr_metric_spec.specs.Metric.{eligible as isEligible, offer as offerOf, pathCost};
+ghost use Rattle.nbr_metric_spec.specs.Metric.{FreshNeighbour, UnansweredIsNot, eligible as isEligible, offer as offerOf, pathCost};
 
 pub mod increment;
 pub mod join_metric;
@@ -31,9 +31,7 @@ pub fn offer(place: Place) -> u32
         if wide(place.rank) < nbr_metric_spec::MINIMUM_RANK {
             return nbr_metric_spec::NO_OFFER;
         }
-        if place.acked < 1 {
-            return nbr_metric_spec::NO_OFFER;
-        }
+        // Where none was acknowledged, this leaves the fresh neighbours, which have no attempt.
         if 11 * wide(place.acked) < 3 * wide(place.attempts) {
             return nbr_metric_spec::NO_OFFER;
         }
@@ -48,7 +46,9 @@ pub fn offer(place: Place) -> u32
 
 // Whether a neighbour may be a parent.
 pub fn eligible(place: Place) -> bool
-    ensures { λ r. ⌜ r ≡ isEligible place ⌝ }
+    ensures answer { λ r. ⌜ r ≡ isEligible place ⌝ }
+    ensures fresh { λ _. ⌜ FreshNeighbour ⌝ }
+    ensures unanswered { λ _. ⌜ UnansweredIsNot ⌝ }
 {
     offer(place) < nbr_metric_spec::NO_OFFER
 }

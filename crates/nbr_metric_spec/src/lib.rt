@@ -11,6 +11,9 @@ pub const HIGHEST_RANK: u32 = 65534;
 // The rank of a node without a parent.
 pub const INFINITE_RANK: u16 = 65535;
 
+// The increment of a neighbour before the first attempt: RFC 6552's default step of rank, 3, in units of 256.
+pub const FRESH_INCREMENT: u32 = 768;
+
 // What a neighbour offers that may not be a parent.
 pub const NO_OFFER: u32 = 65535;
 

@@ -3,3 +3,4 @@ pub mod Places
 pub mod Kept
 pub mod Chosen
 pub mod Witnesses
+pub mod Joins

@@ -12,6 +12,7 @@ unfolding advertised reported forgotten evaluated chosen without broken parentMi
 witnessed = (
   (refl, refl, refl, refl, refl, refl, refl),
   (refl, refl, refl, refl),
+  (refl, refl, refl),
   (refl, refl, refl, refl, refl, refl, refl, refl),
   (refl, refl, refl, refl),
 )

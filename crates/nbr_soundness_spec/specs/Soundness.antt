@@ -7,10 +7,13 @@ use mathlib.Core.Logic.{_⊎_}
 use lib.ListN.{length, getD}
 use Rattle.nbr_metric_spec.specs.declared.Place.{Place}
 use Rattle.nbr_metric_spec.specs.Metric.{blank, eligible, pathCost}
+use Rattle.refusal.specs.Refusal.{done}
 use Rattle.nbr_table_spec.specs.Places.{best, known}
+use Rattle.nbr_table_spec.specs.Changes.{attempted}
 use Rattle.nbr_table_spec.specs.declared.Parent.the-variants.{None, Held}
+use Rattle.nbr_table_spec.specs.declared.Answer.{Answer}
 use Rattle.nbr_table_spec.specs.declared.Table.{Table}
-use Rattle.nbr_table_spec.specs.Calls.{advertised, broken, evaluated, forgotten, held, reported}
+use Rattle.nbr_table_spec.specs.Calls.{advertised, broken, emptyTable, evaluated, evaluation, forgotten, held, reported, withParent}
 
 -- every call keeps a table that is not refused so
 abbrev pub CallsKeepTables : Type 0
@@ -63,3 +66,26 @@ OwnRank =
     × (evaluated table .rank ≡ pathCost (held (evaluated table .table)))
     × (held (evaluated table .table) .rank + 256 ≤ evaluated table .rank)
     × (evaluated table .rank ≤ 65534))
+
+-- a failed report on the only neighbour is done and leaves it not eligible, so that the next evaluation leaves no parent
+abbrev pub ParentLost : Answer → Type 0
+ParentLost failed =
+    (failed .number ≡ done)
+    × (eligible (held (failed .table)) ≡ false)
+    × (evaluated (failed .table) ≡ evaluation done (withParent (failed .table) None) 65535)
+
+-- a tag with this table joins: an evaluation takes the neighbour as the parent, and the own rank is its rank and 768, until a report on it
+-- fails
+abbrev pub JoinsThrough : ℕ → ℕ → Table → Type 0
+JoinsThrough id rank table =
+    (evaluated table ≡ evaluation done (withParent table (Held id)) (rank + 768))
+    × ((attempts : ℕ) → 1 ≤ attempts → attempts ≤ 4 → ParentLost (reported (evaluated table .table) id attempts false))
+
+-- a fresh tag joins through the first neighbour that is advertised to it with a rank from 256 to 64766
+abbrev pub FreshTagJoins : Type 0
+FreshTagJoins = (id rank : ℕ) → 256 ≤ rank → rank ≤ 64766 → JoinsThrough id rank (advertised emptyTable id rank .table)
+
+-- in any table a failed report on a neighbour without an acknowledged attempt, fresh or not, leaves it not eligible, also where its
+-- counters are halved
+abbrev pub FailedIsNotEligible : Type 0
+FailedIsNotEligible = (place : Place) (attempts : ℕ) → place .acked ≡ 0 → 1 ≤ attempts → eligible (attempted attempts false place) ≡ false

@@ -9,6 +9,7 @@ use Rattle.refusal.specs.Refusal.{done, outOfLimits, tableFull, unknownNeighbou
 use Rattle.nbr_metric_spec.specs.declared.Place.{Place}
 use Rattle.nbr_metric_spec.specs.Metric.{blank, eligible, pathCost}
 use Rattle.nbr_table_spec.specs.Places.{best, free, known, somePlace}
+use Rattle.nbr_table_spec.specs.Changes.{newcomer}
 use Rattle.nbr_table_spec.specs.declared.Parent.the-variants.{None, Held}
 use Rattle.nbr_table_spec.specs.declared.Table.{Table}
 use Rattle.nbr_table_spec.specs.Calls.{advertised, answer, broken, emptyTable, evaluated, forgotten, held, reported}
@@ -20,6 +21,10 @@ costing id cost = record { id = id; rank = cost - 256; attempts = 1; acked = 1; 
 -- neighbour 1 is held at a cost, neighbour 2 has another
 abbrev pub twoNeighbours : ℕ → ℕ → Table
 twoNeighbours heldAt otherAt = record { places = costing 1 heldAt ∷ costing 2 otherAt ∷ replicate 30 blank; parent = Held 1 }
+
+-- neighbour 1 is held at a cost, neighbour 2 is fresh, with the lowest rank: it costs 1024
+abbrev pub againstFresh : ℕ → Table
+againstFresh heldAt = record { places = costing 1 heldAt ∷ newcomer 2 256 ∷ replicate 30 blank; parent = Held 1 }
 
 -- so many neighbours, from an identifier on
 abbrev pub neighboursFrom : ℕ → ℕ → List Place
@@ -50,6 +55,13 @@ CostsWitnessed =
     × (eligible (costing 1 65534) ≡ true)
     × (pathCost (costing 1 65534) ≡ 65534)
 
+-- a fresh neighbour is taken as any other: the parent is kept against one that costs 640 less and changes for one that costs 641 less
+abbrev pub FreshWitnessed : Type 0
+FreshWitnessed =
+    (evaluated (againstFresh 1664) .table ≡ againstFresh 1664)
+    × (evaluated (againstFresh 1665) .table .parent ≡ Held 2)
+    × (evaluated (againstFresh 1665) .rank ≡ 1024)
+
 -- a full table breaks no rule, refuses a new neighbour with 11 and an unknown one with 10, and takes a new one once neighbour 7
 -- is forgotten
 abbrev pub FullWitnessed : Type 0
@@ -73,4 +85,4 @@ RefusalsWitnessed =
 
 -- all of them
 abbrev pub Witnessed : Type 0
-Witnessed = GainsWitnessed × CostsWitnessed × FullWitnessed × RefusalsWitnessed
+Witnessed = GainsWitnessed × CostsWitnessed × FreshWitnessed × FullWitnessed × RefusalsWitnessed

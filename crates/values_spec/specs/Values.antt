@@ -46,12 +46,16 @@ workedValues =
     worked (increment 100 75) 512
     ∷ worked (increment 8 7) 366
     ∷ worked (increment 1 1) 256
-    -- with rank 256: 3 of 11 is eligible, with increment 2304; 3 of 12 and 0 of any are not
+    -- with rank 256: 3 of 11 is eligible, with increment 2304; 3 of 12 is not
     ∷ worked (oneIf (eligible (neighbour 1 256 11 3))) 1
     ∷ worked (increment 11 3) 2304
     ∷ worked (oneIf (eligible (neighbour 1 256 12 3))) 0
+    -- without an attempt it is eligible, with increment 768; 0 of 1, of 4 and of 255 are not
+    ∷ worked (oneIf (eligible (neighbour 1 256 0 0))) 1
+    ∷ worked (increment 0 0) 768
     ∷ worked (oneIf (eligible (neighbour 1 256 1 0))) 0
-    ∷ worked (oneIf (eligible (neighbour 1 256 0 0))) 0
+    ∷ worked (oneIf (eligible (neighbour 1 256 4 0))) 0
+    ∷ worked (oneIf (eligible (neighbour 1 256 255 0))) 0
     -- cost 1408 held: kept against 768, changed for 767; the own rank is the cost of the parent that is held then
     ∷ worked (evaluated (between 1408 768) .number) done
     ∷ worked (oneIf (markOf (evaluated (between 1408 768) .table .parent))) 1

@@ -1,5 +1,6 @@
 // Runs worked values through the library and prints a line of numbers for each, under a line that names them; the file `stdout` beside
 // src/ has what they must be. Worked slots stand in reference/tests/values.rs.
+use nbr_table_spec::Table;
 ghost use Prim.Native.Nat.{_≤_};
 
 // The last ASN: an ASN has five bytes.
@@ -41,6 +42,35 @@ fn hop(rank: u16) -> u16 {
     put(metric.metric as u64, b' ');
     put(evaluated.rank as u64, b'\n');
     evaluated.rank
+}
+
+// Evaluates a table: the number, the own rank, 1 if a parent is held, and its identifier.
+fn evaluated(table: Table) -> Table {
+    let evaluation = nbr_calls::evaluate::evaluate(table);
+    let after = evaluation.table;
+    put(evaluation.number as u64, b' ');
+    put(evaluation.rank as u64, b' ');
+    put(
+        if nbr_parent::held_parent::mark_of(after.parent) {
+            1
+        } else {
+            0
+        },
+        b' ',
+    );
+    put(nbr_parent::held_parent::id_of(after.parent), b'\n');
+    after
+}
+
+// A fresh tag joins through neighbour 1, of rank 512, measures it, and keeps it against neighbour 2, a fresh one of rank 256; it
+// changes when neighbour 1 gets worse, to 2 of 5, and changes back when the first attempt at neighbour 2 fails.
+fn fresh_tag() {
+    let start = evaluated(nbr_table_spec::empty());
+    let joined = evaluated(nbr_calls::advertise::advertise(start, 1, 512).table);
+    let measured = evaluated(nbr_calls::report::report(joined, 1, 1, true).table);
+    let kept = evaluated(nbr_calls::advertise::advertise(measured, 2, 256).table);
+    let changed = evaluated(nbr_calls::report::report(kept, 1, 4, true).table);
+    evaluated(nbr_calls::report::report(changed, 2, 1, false).table);
 }
 
 // Reads a frame: its length and its line.
@@ -99,6 +129,11 @@ fn main() {
         b"rank: join metric's number, metric, child's own rank; RFC 8180's five hops, each of which adds 512\n",
     );
     hop(hop(hop(hop(hop(hop(256))))));
+    io::write_all(
+        libc::STDOUT_FILENO,
+        b"a fresh tag, its evaluations: number, own rank, whether a parent is held, its identifier; it joins, measures, keeps, changes and changes back\n",
+    );
+    fresh_tag();
     io::write_all(
         libc::STDOUT_FILENO,
         b"beacon of 38 bytes and cuts of it, zeros, RFC 8180 A.1, A.2 as printed, A.2 with a group of 50 bytes: length and line, for A.2 the template's ID and the timeslot's length\n",

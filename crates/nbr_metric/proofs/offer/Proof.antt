@@ -10,26 +10,26 @@ wide-requires c κs = search needs
 returns : tie.Need-returns
 returns c = search (needs, costWays)
 
-returns-2 : tie.Need-returns-2
-returns-2 c = search (needs, costWays)
-
 wide-requires-2 : tie.Need-wide-requires-2
 wide-requires-2 c κs = search needs
 
-mul-if4 : tie.Need-mul-if4
-mul-if4 c = search needs
+mul-if3 : tie.Need-mul-if3
+mul-if3 c = search needs
 
 wide-requires-3 : tie.Need-wide-requires-3
 wide-requires-3 c κs = search needs
 
-mul-if4-2 : tie.Need-mul-if4-2
-mul-if4-2 c = search needs
+mul-if3-2 : tie.Need-mul-if3-2
+mul-if3-2 c = search needs
 
-returns-3 : tie.Need-returns-3
-returns-3 c = search (needs, costWays)
+returns-2 : tie.Need-returns-2
+returns-2 c = search (needs, costWays)
 
 path-cost-requires : tie.Need-path-cost-requires
 path-cost-requires c κs = search needs
+
+returns-3 : tie.Need-returns-3
+returns-3 c = search (needs, costWays)
 
 returns-4 : tie.Need-returns-4
 returns-4 c = search (needs, costWays)
@@ -37,11 +37,8 @@ returns-4 c = search (needs, costWays)
 returns-5 : tie.Need-returns-5
 returns-5 c = search (needs, costWays)
 
-returns-6 : tie.Need-returns-6
-returns-6 c = search (needs, costWays)
-
 pub offer-spec : {M : Type 1} → statement M
 offer-spec =
     tie.close
-    (tie.spec wide-requires returns returns-2 wide-requires-2 mul-if4 wide-requires-3 mul-if4-2 returns-3
-    path-cost-requires returns-4 returns-5 returns-6)
+    (tie.spec wide-requires returns wide-requires-2 mul-if3 wide-requires-3 mul-if3-2 returns-2 path-cost-requires
+    returns-3 returns-4 returns-5)

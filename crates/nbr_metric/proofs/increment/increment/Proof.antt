@@ -1,5 +1,5 @@
 -- `nbr_metric::increment::increment` meets its contract. Assumes nothing.
-use Rattle.nbr_metric_spec.proofs.MetricLaws.{increment-is-ceiling, incrementWays, increment-some, is-increment, quotient-below}
+use Rattle.nbr_metric_spec.proofs.MetricLaws.{increment-is-ceiling, increment-of-none, incrementWays, is-increment, quotient-below}
 use native.Mathlib.Omega.{arith}
 use Prim.Native.Nat.{_^_}
 use borrow.Author.Needs.{needs}
@@ -7,7 +7,16 @@ use Rattle.nbr_metric.proofs.increment.increment.Statement.{statement}
 use Rattle.nbr_metric.proofs.increment.increment.Tie as tie
 
 returns : tie.Need-returns
-returns c = search (needs, incrementWays)
+returns c = (
+  search (needs, incrementWays),
+  (search (needs, is-increment, incrementWays), (increment-is-ceiling, (increment-of-none, omega arith))),
+)
+
+returns-2 : tie.Need-returns-2
+returns-2 c = (
+  search (needs, incrementWays),
+  (search (needs, is-increment, incrementWays), (increment-is-ceiling, (increment-of-none, omega arith))),
+)
 
 wide-requires : tie.Need-wide-requires
 wide-requires c κs = search needs
@@ -36,14 +45,14 @@ add-result c = search needs
 div-result : tie.Need-div-result
 div-result c = search needs
 
-returns-2 : tie.Need-returns-2
-returns-2 c = (
-  search (needs, increment-some),
-  (search (needs, is-increment, increment-some), (increment-is-ceiling, quotient-below _ _ (2 ^ 29) (omega arith))),
+returns-3 : tie.Need-returns-3
+returns-3 c = (
+  search (needs, incrementWays),
+  (search (needs, is-increment, incrementWays), (increment-is-ceiling, (increment-of-none, quotient-below _ _ (2 ^ 29) (omega arith)))),
 )
 
 pub increment-spec : {M : Type 1} → statement M
 increment-spec =
     tie.close
-    (tie.spec returns wide-requires wide-requires-2 mul-minus mul-minus-2 minus-requires mul-result sub-result
-    add-result div-result returns-2)
+    (tie.spec returns returns-2 wide-requires wide-requires-2 mul-minus mul-minus-2 minus-requires mul-result sub-result
+    add-result div-result returns-3)
