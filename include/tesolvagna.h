@@ -645,7 +645,7 @@ struct tesolvagna_table_answer tesolvagna_table_forget(struct tesolvagna_table t
  * neighbour no parent is held and the own rank is 65535; that is no refusal.
  *
  * So a fresh node joins through the first neighbour that advertises a rank of 256 to 64766, with that rank and 768 as
- * its own. A neighbour whose first attempts fail is not eligible until one is acknowledged.
+ * its own. A neighbour whose first attempts fail is not eligible before one is acknowledged.
  *
  * number 0   done: the table has the parent, and nothing else of it is changed
  * number 8   the table is refused
