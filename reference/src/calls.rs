@@ -52,7 +52,7 @@ pub struct CallList {
     pub calls: Vec<Call>,
 }
 
-/// A list of 1 to 60 calls, half of them with fresh neighbours.
+/// A list of 1 to 60 calls. In half of the lists most neighbours of the first table are fresh.
 pub fn random_calls(random: &mut Random) -> CallList {
     let length = random.between(1, LONGEST_LIST as u64) as usize;
     let kind = match random.below(100) {
@@ -206,8 +206,8 @@ fn break_rule(random: &mut Random, table: &mut Table) {
 /// Neighbours that cost their rank plus 256, at few ranks; a fresh one costs 512 more, which other ranks make up for.
 fn equal_calls(random: &mut Random, links: Links, length: usize) -> CallList {
     const STEPS: [u16; 5] = [0, 640, 641, 1281, 1282];
-    let higher = if links == Links::Fresh { &[256, 256 + 512][..] } else { &[256] };
-    let ranks: Vec<u16> = higher.iter().flat_map(|rank| STEPS.map(|step| rank + step)).collect();
+    let lowest = if links == Links::Fresh { &[256, 256 + 512][..] } else { &[256] };
+    let ranks: Vec<u16> = lowest.iter().flat_map(|rank| STEPS.map(|step| rank + step)).collect();
     let used = random.between(2, 10) as usize;
     let known = identifiers(random, used);
     let neighbours: Vec<Place> = known

@@ -9,6 +9,14 @@ const LAST_ASN: u64 = 0xFF_FFFF_FFFF;
 const LONGEST: usize = 125;
 // One byte more.
 const TOO_LONG: usize = 126;
+// The neighbours of a fresh tag, in the order in which it hears them, and the ranks that they advertise.
+const FIRST: u64 = 1;
+
+const FIRST_RANK: u16 = 512;
+
+const SECOND: u64 = 2;
+
+const SECOND_RANK: u16 = 256;
 
 // Writes a number and the byte behind it.
 fn put(number: u64, end: u8) {
@@ -62,15 +70,15 @@ fn evaluated(table: Table) -> Table {
     after
 }
 
-// A fresh tag joins through neighbour 1, of rank 512, measures it, and keeps it against neighbour 2, a fresh one of rank 256; it
-// changes when neighbour 1 gets worse, to 2 of 5, and changes back when the first attempt at neighbour 2 fails.
+// A fresh tag joins through the first neighbour, measures it, and keeps it against the second, which is fresh. It changes when the
+// first gets worse, to 2 of 5, and changes back when the first attempt at the second fails.
 fn fresh_tag() {
     let start = evaluated(nbr_table_spec::empty());
-    let joined = evaluated(nbr_calls::advertise::advertise(start, 1, 512).table);
-    let measured = evaluated(nbr_calls::report::report(joined, 1, 1, true).table);
-    let kept = evaluated(nbr_calls::advertise::advertise(measured, 2, 256).table);
-    let changed = evaluated(nbr_calls::report::report(kept, 1, 4, true).table);
-    evaluated(nbr_calls::report::report(changed, 2, 1, false).table);
+    let joined = evaluated(nbr_calls::advertise::advertise(start, FIRST, FIRST_RANK).table);
+    let measured = evaluated(nbr_calls::report::report(joined, FIRST, 1, true).table);
+    let kept = evaluated(nbr_calls::advertise::advertise(measured, SECOND, SECOND_RANK).table);
+    let changed = evaluated(nbr_calls::report::report(kept, FIRST, 4, true).table);
+    evaluated(nbr_calls::report::report(changed, SECOND, 1, false).table);
 }
 
 // Reads a frame: its length and its line.
