@@ -1,4 +1,5 @@
 // Prints the line of one acknowledgement: raw bytes from standard input, or from the file that the only argument names (docs/PROGRAMS.md).
+#![tactic(auto)]
 
 // What the program is called in what it tells.
 const PROGRAM: [u8; 3] = *b"ack";

@@ -1,4 +1,5 @@
 // Prints in which fields two beacons differ: raw bytes from the two files that the arguments name (docs/PROGRAMS.md).
+#![tactic(auto)]
 
 // What the program is called in what it tells.
 const PROGRAM: [u8; 7] = *b"compare";

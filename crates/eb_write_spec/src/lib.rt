@@ -1,6 +1,7 @@
 // Writing a record: its frame in the order on air (specs/Frame.antt), the limits within which it can be written (specs/Limits.antt), what the
 // call answers and leaves in the buffer (specs/Write.antt, and specs/Form.antt for C), and when each number is given (specs/Claims.antt),
 // with the laws that the crates above share. The crate `eb_write` does it.
+#![tactic(auto)]
 
 // The answer of a call: its number and, if the frame was written, its length, else 0.
 #[repr(C)]

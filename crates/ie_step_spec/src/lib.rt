@@ -1,5 +1,6 @@
 // Information elements: what may stand at an offset of the header list, of the payload list and of an MLME group. Definitions
 // (specs/) and their laws; the crate `ie_step` reads them.
+#![tactic(auto)]
 
 // The ID that ends the header list; payload elements follow.
 pub const HEADER_TERMINATION_1: u64 = 0x7E;

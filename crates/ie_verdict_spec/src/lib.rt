@@ -1,5 +1,6 @@
 // Whether a known element is as it should be: for each element a row of tests on plain numbers, in the order of the rules
 // (specs/Verdict.antt), with their laws.
+#![tactic(auto)]
 
 // Kinds of known elements. The kind of a short sub-element is its ID: synchronization.
 pub const SYNCHRONIZATION: u64 = 0x1A;

@@ -1,5 +1,6 @@
 // The walk over a frame's elements. It notes where each known element lies, where the first fault is, and how many elements were
 // skipped; nothing is decoded. Definitions (specs/Walk.antt) and their laws; the crate `ie_walk` walks.
+#![tactic(auto)]
 
 // What the walk has found. Offsets are 0 for an element that was not taken: no element starts at 0.
 #[derive(Drop)]

@@ -1,5 +1,6 @@
 // The MAC header, which stands before a frame's elements: frame control, the fixed fields, and where the elements start and end. Nothing here
 // says which frames are accepted.
+#![tactic(auto)]
 
 // The version of IEEE 802.15.4-2015.
 pub const VERSION_2015: u64 = 2;

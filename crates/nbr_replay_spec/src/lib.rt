@@ -1,5 +1,6 @@
 // What a log of calls on a table comes to: definitions (specs/) and the types that they speak of.
 // The rules are those of docs/RULES.md, Parents do not flap.
+#![tactic(auto)]
 
 // The most rows that a log may have.
 pub const MOST_ROWS: usize = 65535;

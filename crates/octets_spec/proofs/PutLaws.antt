@@ -73,6 +73,7 @@ module _ (buffer : List ℕ) (at width : ℕ) where
 pub le_cut : (inside width n at : ℕ) (buffer : List ℕ) → length buffer ≤ at + inside → inside ≤ width → stored buffer at (le_bytes inside n) ≡ stored buffer at (le_bytes width n)
 unfolding le_bytes stored
 le_cut zero width n at buffer past less = sets_out buffer (le_bytes width n) at (omega arith)
+le_cut (suc inside) zero n at buffer past less = absurd (omega arith)
 le_cut (suc inside) (suc width) n at buffer past less = le_cut inside width (n / 256) (suc at) (set buffer at (n % 256)) (omega (arith, length-set buffer at (n % 256))) (omega arith)
 
 pub le_cut_at : (buffer after : List ℕ) (at width n : ℕ) → length buffer - at < width → after ≡ stored buffer at (le_bytes (length buffer - at) n) → after ≡ stored buffer at (le_bytes width n)

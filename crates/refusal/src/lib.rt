@@ -1,5 +1,6 @@
 // The numbers that a call can return, each with when it is given. The definitions have the same names (specs/Refusal.antt), and so has
 // include/tesolvagna.h, with TESOLVAGNA_ in front.
+#![tactic(auto)]
 
 // The call is done; nothing was refused.
 pub const DONE: u8 = 0;

@@ -1,6 +1,7 @@
 // Text, decimal and hex put into a lent buffer from an offset on, and parts of a line, which are made of these. Each function answers the
 // offset behind what it put. A text or a number that does not fit is not put at all: the buffer is then as it was, and the answer is the
 // offset itself.
+#![tactic(auto)]
 ghost use Rattle.std.specs.Prelude.{◌≡◌, ◌+◌, ◌*◌, ◌≤◌, length};
 ghost use Rattle.octets_spec.specs.Number.{stored};
 ghost use Rattle.text_put_spec.specs.Text.{decimal as text_decimal, hexadecimal, hex_octets, fitting};

@@ -1,1 +1,2 @@
 // Text, decimal and hex in a buffer: definitions (specs/Text.antt) and their laws.
+#![tactic(auto)]

@@ -1,5 +1,6 @@
 // Runs worked values through the library and prints a line of numbers for each, under a line that names them; the file `stdout` beside
 // src/ has what they must be. Worked slots stand in reference/tests/values.rs.
+#![tactic(auto)]
 ghost use Rattle.std.specs.Prelude.{◌≤◌};
 
 use nbr_table_spec::Table;

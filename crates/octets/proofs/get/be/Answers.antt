@@ -1,0 +1,11 @@
+-- `octets::get::be` meets its contract. Assumes nothing.
+use Rattle.octets_spec.proofs.NumberLaws.{be_past, positive}
+use borrow.Author.Rules.{rules}
+use Rattle.octets.proofs.get.be.Goals as goal
+
+-- `octets::get::be` meets its contract. Assumes nothing.
+pub returns-then-s-at : goal.returns-then-s-at
+returns-then-s-at c = (be_past _ _ _ (search rules), positive _)
+
+pub returns : goal.returns
+returns c = rw c.at_most_8.ensures at c.be_within.ensures

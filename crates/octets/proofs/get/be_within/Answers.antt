@@ -1,0 +1,21 @@
+-- `octets::get::be_within` meets its contract. Assumes nothing.
+use Prim.Native.Nat.{◌-◌, ◌≤◌}
+use borrow.Author.Rules.{rules}
+use Rattle.octets_spec.specs.Number.{be_at}
+use Rattle.octets_spec.proofs.NumberLaws.{Read, be_begins, be_turn, be_times, be_plus, be_ends}
+use Rattle.octets.proofs.get.be_within.Goals as goal
+
+pub loop-i-init : goal.loop-i-init
+loop-i-init c = search (rules, be_begins, be_turn, be_times, be_plus, be_ends)
+
+pub loop-i-preserved : goal.loop-i-preserved
+loop-i-preserved c = search (rules, be_begins, be_turn, be_times, be_plus, be_ends)
+
+pub returns : goal.returns
+returns c = be_ends _ _ _ _ c.loop-i.invariant.1 _ c.loop-i.invariant.0 (search rules)
+
+pub overflow_mul-number : goal.overflow_mul-number
+overflow_mul-number c = search (rules, be_times)
+
+pub overflow_add-number : goal.overflow_add-number
+overflow_add-number c = search (rules, be_plus)
