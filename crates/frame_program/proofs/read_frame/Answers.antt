@@ -1,0 +1,13 @@
+-- `frame_program::read_frame` meets its contract. Assumes nothing.
+use Prim.Native.Nat.{◌-◌, ◌<◌, ◌≤◌}
+use mathlib.Core.Path.{◌≡◌}
+use lib.ListN.{length as len}
+use borrow.Author.Rules.{rules}
+use Rattle.frame_program.proofs.CountLaws.{counted}
+use Rattle.frame_program.proofs.read_frame.Goals as goal
+
+pub returns-then-got-eq0 : goal.returns-then-got-eq0
+returns-then-got-eq0 c = search (rules, counted)
+
+pub returns : goal.returns
+returns c = search (rules, counted)

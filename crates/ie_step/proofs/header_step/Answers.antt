@@ -1,0 +1,10 @@
+-- `ie_step::header_step` meets its contract. Assumes nothing.
+use Rattle.ie_step_spec.proofs.StepLaws.{header_end, header_cut, header_here}
+use borrow.Author.Rules.{rules}
+use Rattle.ie_step.proofs.header_step.Goals as goal
+
+pub returns-then-end-at : goal.returns-then-end-at
+returns-then-end-at c = search (rules, header_end)
+
+pub returns-then-end-at-lt2 : goal.returns-then-end-at-lt2
+returns-then-end-at-lt2 c = search (rules, header_cut)

@@ -1,0 +1,13 @@
+-- `text_fields::put_part_name` meets its contract. Assumes nothing.
+use borrow.Author.Rules.{rules}
+use Rattle.text_fields.proofs.NameLaws.{names, elementNames}
+use Rattle.text_fields.proofs.put_part_name.Goals as goal
+
+pub returns-in-0 : goal.returns-in-0
+returns-in-0 c = search (rules, names, elementNames)
+
+pub returns-in-1 : goal.returns-in-1
+returns-in-1 c = search (rules, names, elementNames)
+
+pub returns-in_default : goal.returns-in_default
+returns-in_default c = search (rules, names, elementNames)
