@@ -5,14 +5,14 @@ ghost use Rattle.ack_read_spec.specs.Claims.{FiveIsTheAddressing, FourIsSecurity
 ghost use Rattle.ack_read_spec.specs.Witnesses.{CorrectionsAreSigned, EachNumberIsGiven, ShortestIsRead};
 
 // What the header list gives: the number of its first fault, and where the content of the correction starts, 0 for none.
-#[derive(Drop)]
+#[derive(Clone, Copy)]
 pub struct Found {
     pub number: u8,
     pub at: usize,
 }
 
 // The number of a frame and its record, which is the blank one if the number is not 0.
-#[derive(Drop)]
+#[derive(Clone, Copy)]
 pub struct AckAnswer {
     pub number: u8,
     pub ack: ack_record_spec::Ack,
@@ -20,7 +20,7 @@ pub struct AckAnswer {
 
 // The same without enums, as C has it.
 #[repr(C)]
-#[derive(Drop)]
+#[derive(Clone, Copy)]
 pub struct AckReading {
     pub number: u8,
     pub ack: ack_record_spec::AckForm,

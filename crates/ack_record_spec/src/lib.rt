@@ -8,7 +8,7 @@ ghost use Rattle.ack_record_spec.specs.Record.{blank_ack, form_of, ack_of, is_ac
 use mac_header_spec::{Address, SequenceNumber};
 
 // The record. The correction is in microseconds; `nack` says that the frame was not acknowledged.
-#[derive(Drop)]
+#[derive(Clone, Copy)]
 pub struct Ack {
     pub sequence: SequenceNumber,
     pub pan: u16,
@@ -21,7 +21,7 @@ pub struct Ack {
 // The record without enums, as C has it: a mark beside the sequence number, which is 0 where the mark says that there is none, and the kind
 // of each address beside its number.
 #[repr(C)]
-#[derive(Drop)]
+#[derive(Clone, Copy)]
 pub struct AckForm {
     pub sequenced: bool,
     pub sequence: u8,

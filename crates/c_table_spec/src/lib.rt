@@ -7,7 +7,7 @@ use nbr_metric_spec::Place;
 
 // A table: whether a parent is held, its identifier, 0 where none is held, and 32 places.
 #[repr(C)]
-#[derive(Drop)]
+#[derive(Clone, Copy)]
 pub struct TableForm {
     pub held: bool,
     pub parent: u64,
@@ -16,7 +16,7 @@ pub struct TableForm {
 
 // What advertise, report and forget answer: the number, and the table, which is the one given where the number is not 0.
 #[repr(C)]
-#[derive(Drop)]
+#[derive(Clone, Copy)]
 pub struct TableAnswer {
     pub number: u8,
     pub table: TableForm,
@@ -24,7 +24,7 @@ pub struct TableAnswer {
 
 // What a call comes to before the places are changed: its number, the place that it stores, at which number, and the held parent
 // afterwards.
-#[derive(Drop)]
+#[derive(Clone, Copy)]
 pub struct Stored {
     pub number: u8,
     pub at: usize,
@@ -36,7 +36,7 @@ pub struct Stored {
 // What an evaluation answers: also whether the parent changed, the own rank (65535 without a parent and where it is refused), and
 // the parent that is held afterwards.
 #[repr(C)]
-#[derive(Drop)]
+#[derive(Clone, Copy)]
 pub struct EvaluationAnswer {
     pub number: u8,
     pub changed: bool,
@@ -48,7 +48,7 @@ pub struct EvaluationAnswer {
 
 // What the replay of a log answers: also what it counted, and whether the bound on changes applies.
 #[repr(C)]
-#[derive(Drop)]
+#[derive(Clone, Copy)]
 pub struct ReplayAnswer {
     pub number: u8,
     pub applies: bool,

@@ -1,7 +1,7 @@
 -- Contents that differ (docs/RULES.md, Comparing two beacons), and that this can be decided. A decision does not have to be believed: its type says
 -- what it decides. Assumes nothing.
 use Rattle.std.specs.Prelude.{◌≡◌, refl, ◌↔◌}
-use Rattle.std.proofs.Math.Logic.{Dec·and, Dec·not, Dec·of-iff}
+use Rattle.std.proofs.Math.Logic.Dec.{and, not, of_iff}
 use mathlib.Core.List.{List-discrete}
 use Rattle.std.proofs.Math.Decide.{ℕ_discrete}
 use Rattle.eb_fields_spec.specs.declared.Content.{Content}
@@ -22,9 +22,9 @@ same_parts one other =
 -- two contents are the same or not
 unfoldable pub same? : (one other : Content) → Dec (one ≡ other)
 same? one other =
-    Dec·of-iff (same_parts one other)
-    (Dec·and (ℕ_discrete one.kind other.kind) (Dec·and (ℕ_discrete one.length other.length) (Dec·and (ℕ_discrete one.number other.number) (List-discrete ℕ_discrete one.octets other.octets))))
+    of_iff (same_parts one other)
+    (and (ℕ_discrete one.kind other.kind) (and (ℕ_discrete one.length other.length) (and (ℕ_discrete one.number other.number) (List-discrete ℕ_discrete one.octets other.octets))))
 
 -- a field differs or not
 unfoldable pub differs? : (difference : Difference) → Dec (Differs difference)
-differs? difference = Dec·not (same? difference.first difference.second)
+differs? difference = not (same? difference.first difference.second)

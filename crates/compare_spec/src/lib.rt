@@ -5,7 +5,7 @@ ghost use Rattle.compare_spec.specs.Claims.{SameFieldsSameRecord, NoDifferenceWh
 use eb_fields_spec::Content;
 
 // A field that differs: its place in the list of fields, the content on each side.
-#[derive(Drop)]
+#[derive(Clone, Copy)]
 pub struct Difference {
     pub place: usize,
     pub first: Content,
@@ -13,7 +13,7 @@ pub struct Difference {
 }
 
 // The fields that differ, in order: the first `count` of `entries`. Where there is no list, `listed` is false: that is not the list of none.
-#[derive(Drop)]
+#[derive(Clone, Copy)]
 pub struct Differences {
     pub listed: bool,
     pub count: usize,
@@ -21,7 +21,7 @@ pub struct Differences {
 }
 
 // What comparing two frames answers: the number of each frame, and where both are 0 the list.
-#[derive(Drop)]
+#[derive(Clone, Copy)]
 pub struct Comparison {
     pub first: u8,
     pub second: u8,

@@ -3,7 +3,7 @@ ghost use Rattle.std.specs.Prelude.{◌≡◌, true, ◌&&◌, ◌||◌, ◌^◌
 ghost use Rattle.eb_decode.specs.Header.{header_form};
 
 // The sequence number, which is 0 where there is none, the PAN, and the source with its kind.
-#[derive(Drop)]
+#[derive(Clone, Copy)]
 pub(crate) struct HeaderForm {
     pub sequenced: bool,
     pub sequence: u8,

@@ -29,7 +29,7 @@ pub const JOINING: usize = 70;
 // The content of a field: its kind, and what that kind has. A number, and an address, short or extended, is in `number`; octets are the first
 // `length` of `octets`. What a kind has not is 0. There is no padding.
 #[repr(C)]
-#[derive(Drop)]
+#[derive(Clone, Copy)]
 pub struct Content {
     pub kind: u32,
     pub length: u32,

@@ -8,14 +8,14 @@ ghost use Rattle.eb_read_spec.specs.Network.{NetworkIsTheRecords, NetworkLiesIns
 ghost use Rattle.eb_read_spec.specs.Witnesses.{ShortestIsRead, SomeFrameIsAccepted, SomeFrameHasJoiningInformation, EachNumberIsGiven};
 
 // The number of a frame and what the walk over it noted.
-#[derive(Drop)]
+#[derive(Clone, Copy)]
 pub struct Examination {
     pub number: u8,
     pub walk: ie_walk_spec::Walk,
 }
 
 // The number of a frame and its record, which is the blank one if the number is not 0.
-#[derive(Drop)]
+#[derive(Clone, Copy)]
 pub struct ReadAnswer {
     pub number: u8,
     pub beacon: eb_record_spec::Beacon,
@@ -23,7 +23,7 @@ pub struct ReadAnswer {
 
 // The same without enums, as C has it.
 #[repr(C)]
-#[derive(Drop)]
+#[derive(Clone, Copy)]
 pub struct FormReading {
     pub number: u8,
     pub beacon: eb_record_spec::BeaconForm,
@@ -31,7 +31,7 @@ pub struct FormReading {
 
 // A part of the bytes of a frame: where it starts and how many bytes it has.
 #[repr(C)]
-#[derive(Drop)]
+#[derive(Clone, Copy)]
 pub struct Span {
     pub offset: usize,
     pub length: usize,

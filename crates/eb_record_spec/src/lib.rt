@@ -7,7 +7,7 @@ ghost use Rattle.eb_record_spec.specs.Record.{blank_joining, blank_link};
 
 // The synchronization element: the ASN (5 bytes on air) and the join metric.
 #[repr(C)]
-#[derive(Drop)]
+#[derive(Clone, Copy)]
 pub struct Synchronization {
     pub asn: u64,
     pub metric: u8,
@@ -15,7 +15,7 @@ pub struct Synchronization {
 
 // The timeslot element: the template's ID and, where they are there, its twelve timings in microseconds.
 #[repr(C)]
-#[derive(Drop)]
+#[derive(Clone, Copy)]
 pub struct TimeslotTemplate {
     pub id: u8,
     pub timed: bool,
@@ -25,7 +25,7 @@ pub struct TimeslotTemplate {
 // A link of the slotframe: its timeslot, its channel offset and its options, which are one byte on air. The options have 16 bits here, so that
 // a link has no padding; over 255 they are outside the limits of writing.
 #[repr(C)]
-#[derive(Drop)]
+#[derive(Clone, Copy)]
 pub struct Link {
     pub timeslot: u16,
     pub channel_offset: u16,
@@ -35,7 +35,7 @@ pub struct Link {
 // The slotframe and link element: the slotframe's handle and size, and its links, of which the first `count` are used. The count is one byte on
 // air and has 16 bits here, so that no padding stands before the links; over 16 it is outside the limits of writing.
 #[repr(C)]
-#[derive(Drop)]
+#[derive(Clone, Copy)]
 pub struct Slotframe {
     pub handle: u8,
     pub size: u16,
@@ -46,7 +46,7 @@ pub struct Slotframe {
 // Joining information: whether it is there, its R and P flags, its three priorities, the address of the join proxy (there if P is
 // set), and the network ID, of which the first `length` bytes are used.
 #[repr(C)]
-#[derive(Drop)]
+#[derive(Clone, Copy)]
 pub struct JoiningInformation {
     pub present: bool,
     pub router: bool,
@@ -60,7 +60,7 @@ pub struct JoiningInformation {
 }
 
 // The record.
-#[derive(Drop)]
+#[derive(Clone, Copy)]
 pub struct Beacon {
     pub sequence: mac_header_spec::SequenceNumber,
     pub pan: u16,
@@ -75,7 +75,7 @@ pub struct Beacon {
 // The record without enums, as C has it: a mark beside the sequence number, which is 0 where the mark says that there is none, and the
 // kind of the source address beside its number.
 #[repr(C)]
-#[derive(Drop)]
+#[derive(Clone, Copy)]
 pub struct BeaconForm {
     pub sequenced: bool,
     pub sequence: u8,

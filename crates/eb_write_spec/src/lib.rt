@@ -5,7 +5,7 @@
 
 // The answer of a call: its number and, if the frame was written, its length, else 0.
 #[repr(C)]
-#[derive(Drop)]
+#[derive(Clone, Copy)]
 pub struct Written {
     pub number: u8,
     pub length: usize,

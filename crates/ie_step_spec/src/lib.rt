@@ -19,7 +19,7 @@ pub const LONG: u64 = 0x80;
 
 // What stands at an offset of the header list: its end with nothing behind it, its end with the payload list behind it, an element
 // with this ID and these bytes, or a fault.
-#[derive(Drop)]
+#[derive(Clone, Copy)]
 pub enum HeaderStep {
     End,
     Payload(usize),
@@ -28,7 +28,7 @@ pub enum HeaderStep {
 }
 
 // What stands at an offset of the payload list: its end, an MLME group, joining information, something to be skipped, or a fault.
-#[derive(Drop)]
+#[derive(Clone, Copy)]
 pub enum OuterStep {
     End,
     Group(usize, usize),
@@ -38,7 +38,7 @@ pub enum OuterStep {
 }
 
 // What stands at an offset of an MLME group: its end, a sub-element of this kind with these bytes, or a fault.
-#[derive(Drop)]
+#[derive(Clone, Copy)]
 pub enum InnerStep {
     Back,
     Part(u64, usize, usize),

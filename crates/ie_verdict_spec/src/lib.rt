@@ -14,7 +14,7 @@ pub const HOPPING: u64 = 0x80 + 0x9;
 pub const JOINING: u64 = 0x100 + 2;
 
 // The offsets of the elements that were taken, each 0 if there was none.
-#[derive(Drop)]
+#[derive(Clone, Copy)]
 pub struct Seen {
     pub synchronization: usize,
     pub timeslot: usize,

@@ -3,7 +3,7 @@
 #![tactic(auto)]
 
 // What the walk has found. Offsets are 0 for an element that was not taken: no element starts at 0.
-#[derive(Drop)]
+#[derive(Clone, Copy)]
 pub struct Walk {
     pub fault: usize,
     pub faulty: usize,
@@ -18,7 +18,7 @@ pub struct Walk {
 }
 
 // How the reader of an MLME group ended: with what the whole list gives, or behind the group, where the payload list goes on.
-#[derive(Drop)]
+#[derive(Clone, Copy)]
 pub enum GroupEnd {
     Whole(Walk),
     Passed(Walk),
@@ -26,7 +26,7 @@ pub enum GroupEnd {
 
 // How the header list ended: its fault and the fault's offset, how many elements were skipped, and where the payload list begins, 0 if
 // none follows.
-#[derive(Drop)]
+#[derive(Clone, Copy)]
 pub struct HeaderListEnd {
     pub fault: usize,
     pub faulty: usize,

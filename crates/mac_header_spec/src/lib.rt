@@ -10,7 +10,7 @@ pub const SHORT: u64 = 2;
 pub const EXTENDED: u64 = 3;
 
 // The parts of a frame control word that matter, each as a number. Modes of addresses: 2 short, 3 extended.
-#[derive(Drop)]
+#[derive(Clone, Copy)]
 pub struct Control {
     pub kind: u64,
     pub security: u64,
@@ -23,7 +23,7 @@ pub struct Control {
 }
 
 // Where the fixed fields start, and where the elements behind them start and end. The sequence number, if any, stands at 2.
-#[derive(Drop)]
+#[derive(Clone, Copy)]
 pub struct FieldOffsets {
     pub pan: usize,
     pub destination: usize,
@@ -33,14 +33,14 @@ pub struct FieldOffsets {
 }
 
 // An address: short (2 bytes) or extended (8 bytes).
-#[derive(Drop)]
+#[derive(Clone, Copy)]
 pub enum Address {
     Short(u16),
     Extended(u64),
 }
 
 // The sequence number, which a frame may suppress.
-#[derive(Drop)]
+#[derive(Clone, Copy)]
 pub enum SequenceNumber {
     Absent,
     Number(u8),
@@ -48,7 +48,7 @@ pub enum SequenceNumber {
 
 // The fields of a MAC header, and where the elements behind them start and end. Frame control says which kind an address has, and whether there
 // is a sequence number; it is 0 where there is none.
-#[derive(Drop)]
+#[derive(Clone, Copy)]
 pub struct MacHeader {
     pub control: Control,
     pub sequence: u8,

@@ -21,7 +21,7 @@ pub const NO_OFFER: u32 = 65535;
 // A place of the table. The counters are wider than their limits, so that a table over them can be given, and is refused.
 // C knows it as struct tesolvagna_neighbour: 16 bytes, the last of which is padding.
 #[repr(C)]
-#[derive(Drop)]
+#[derive(Clone, Copy)]
 pub struct Place {
     pub id: u64,
     pub rank: u16,
@@ -32,7 +32,7 @@ pub struct Place {
 
 // A join metric with the call's number; 0 where it is refused.
 #[repr(C)]
-#[derive(Drop)]
+#[derive(Clone, Copy)]
 pub struct JoinAnswer {
     pub number: u8,
     pub metric: u8,

@@ -17,7 +17,7 @@ pub const EVALUATE: u8 = 3;
 // What a log comes to: the table at the end, how many evaluations there were, how many of them changed the parent, all
 // rises of the held parent's cost between one evaluation and the next, its cost on entry to the first and on exit from the
 // last, and whether the claim applies: at least one evaluation, and at each an eligible parent on entry.
-#[derive(Drop)]
+#[derive(Clone, Copy)]
 pub struct Outcome {
     pub number: u8,
     pub table: nbr_table_spec::Table,
@@ -30,7 +30,7 @@ pub struct Outcome {
 }
 
 // The counts of an outcome, on the way: until the end, `applies` says that each evaluation so far had an eligible parent on entry.
-#[derive(Drop)]
+#[derive(Clone, Copy)]
 pub struct Counts {
     pub evaluations: u32,
     pub changes: u32,
@@ -42,7 +42,7 @@ pub struct Counts {
 
 // What one evaluation shows: 1 for a change of the parent, the held parent's cost on entry and on exit, and whether the
 // parent held on entry is eligible.
-#[derive(Drop)]
+#[derive(Clone, Copy)]
 pub struct Visit {
     pub change: u32,
     pub entry: u32,
@@ -52,7 +52,7 @@ pub struct Visit {
 
 // What one row does to a table: the place that it stores, and its number, 32 for none; the parent that is held afterwards; and, for
 // an evaluation, what it shows.
-#[derive(Drop)]
+#[derive(Clone, Copy)]
 pub struct Step {
     pub at: usize,
     pub place: nbr_metric_spec::Place,

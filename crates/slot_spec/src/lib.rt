@@ -4,7 +4,7 @@ ghost use Rattle.slot_spec.specs.Claims.{SleepsExactlyWhenIdle, SomeSleepAndSome
 
 // What is done in a slot: nothing, because the schedule was refused or because the slot is free, or a frame is sent or awaited on
 // the link at an index of the list, on a channel.
-#[derive(Drop)]
+#[derive(Clone, Copy)]
 pub enum Decision {
     Refused,
     Sleep,
@@ -14,7 +14,7 @@ pub enum Decision {
 
 // What a decision is asked beside the links: the slotframe's size, the hopping sequence ID, the ASN of the slot, and whether a frame waits
 // to be sent.
-#[derive(Drop)]
+#[derive(Clone, Copy)]
 pub struct SlotQuery {
     pub size: u32,
     pub id: u32,
@@ -24,7 +24,7 @@ pub struct SlotQuery {
 
 // The numbers of a decision: of the refusal, of the action (0 sleep, 1 transmit, 2 listen), the channel and the link's index.
 #[repr(C)]
-#[derive(Drop)]
+#[derive(Clone, Copy)]
 pub struct SlotAnswer {
     pub number: u8,
     pub action: u8,
@@ -33,14 +33,14 @@ pub struct SlotAnswer {
 }
 
 // What a search through the list has found: the index and the channel offset of a link.
-#[derive(Drop)]
+#[derive(Clone, Copy)]
 pub enum Found {
     Nothing,
     At(u8, u16),
 }
 
 // The same while the search goes on, as numbers that each turn makes anew (an enum would be copied with its padding).
-#[derive(Drop)]
+#[derive(Clone, Copy)]
 pub struct Search {
     pub found: bool,
     pub index: usize,
@@ -49,7 +49,7 @@ pub struct Search {
 
 // What is known of the links from an index on: the slotframe's size and the slot in it, whether every timeslot is below the size, and
 // the first active link that may transmit and the first that may receive.
-#[derive(Drop)]
+#[derive(Clone, Copy)]
 pub struct Scan {
     pub size: u32,
     pub slot: u32,

@@ -8,3 +8,6 @@ returns-then-end-at c = search (rules, header_end)
 
 pub returns-then-end-at-lt2 : goal.returns-then-end-at-lt2
 returns-then-end-at-lt2 c = search (rules, header_cut)
+
+pub returns : goal.returns
+returns c = (header_here _ _ _ _ (search rules) (search rules) c.le.ensures.0 _ c.header_word.ensures.0, c.header_word.ensures.1)

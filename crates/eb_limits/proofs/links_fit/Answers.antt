@@ -1,0 +1,18 @@
+-- `eb_limits::links_fit` meets its contract. Assumes nothing.
+use lib.ListN.{length}
+use Prim.Native.Nat.{◌≤◌}
+use mathlib.Core.Path.{◌≡◌}
+use Rattle.eb_write_spec.specs.Range.{all_from}
+use Rattle.eb_write_spec.specs.Limits.{link_fits}
+use Rattle.eb_write_spec.proofs.RangeLaws.{ranges}
+use borrow.Author.Rules.{rules}
+use Rattle.eb_limits.proofs.links_fit.Goals as goal
+
+pub loop-i-init : goal.loop-i-init
+loop-i-init c = search (rules, ranges)
+
+pub loop-i-preserved : goal.loop-i-preserved
+loop-i-preserved c = search (rules, ranges)
+
+pub returns : goal.returns
+returns c = search (rules, ranges)

@@ -1,0 +1,7 @@
+-- `mac_header::offsets_of` meets its contract. Assumes nothing.
+use Rattle.mac_header_spec.proofs.ControlLaws.{controlling}
+use borrow.Author.Rules.{rules}
+use Rattle.mac_header.proofs.offsets_of.Goals as goal
+
+pub returns : goal.returns
+returns c = search (rules, controlling) depth 12
