@@ -2,12 +2,8 @@
 use mathlib.Core.Path.{refl}
 use Rattle.eb_record_spec.specs.Form.{is_sequenced, sequence_number, is_extended, address_number}
 use Rattle.ack_record_spec.specs.Record.{blank_ack, form_of}
-use Rattle.ack_record_spec.proofs.blank_form.Statement.{statement}
-use Rattle.ack_record_spec.proofs.blank_form.Tie as tie
+use Rattle.ack_record_spec.proofs.blank_form.Goals as goal
 
-returns : tie.Need-returns
+pub returns : goal.returns
 unfolding form_of is_sequenced sequence_number is_extended address_number blank_ack
 returns c = refl
-
-pub blank_form_spec : {M : Type 1} → statement M
-blank_form_spec = tie.close (tie.spec returns)
