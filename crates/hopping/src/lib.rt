@@ -1,5 +1,6 @@
 // The channel rule: on which channel a link is used in a slot.
 #![tactic(auto)]
+
 ghost use Rattle.std.specs.Prelude.{◌≡◌};
 ghost use Rattle.slot_spec.specs.Hopping.{channel_of, HoppingPermutes};
 

@@ -1,6 +1,7 @@
 // The slot decision: what a tag does in a slot of its schedule. The schedule is a lent list of links; all else that is asked is one struct.
 // The list is gone through once, by `scan`, and is not copied.
 #![tactic(auto)]
+
 ghost use Rattle.std.specs.Prelude.{◌≡◌};
 ghost use Rattle.slot_spec.specs.Slot.{decision};
 ghost use Rattle.slot_spec.specs.Answer.{answer_of, slot_answer};

@@ -1,5 +1,6 @@
 // What a tag does in a slot: the decision, how a list of links is gone through for it, and the decision's numbers; a theorem about it.
 #![tactic(auto)]
+
 ghost use Rattle.slot_spec.specs.Claims.{SleepsExactlyWhenIdle, SomeSleepAndSomeDoNot};
 
 // What is done in a slot: nothing, because the schedule was refused or because the slot is free, or a frame is sent or awaited on
