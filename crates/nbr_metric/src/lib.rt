@@ -1,5 +1,6 @@
 // The path cost through a neighbour, and whether it may be a parent (docs/RULES.md, Neighbours).
 #![tactic(auto)]
+
 ghost use Rattle.std.specs.Prelude.{◌≡◌, ◌<◌, ◌≤◌, ◌^◌};
 ghost use Rattle.nbr_metric_spec.specs.Metric.{FreshNeighbour, UnansweredIsNot, eligible as isEligible, offer as offer_of, path_cost};
 

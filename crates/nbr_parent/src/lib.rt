@@ -1,5 +1,6 @@
 // The choice of the parent between the held one and the best one. The rules are those of docs/RULES.md, Neighbours.
 #![tactic(auto)]
+
 ghost use Rattle.std.specs.Prelude.{◌≡◌, ◌<◌};
 ghost use Rattle.nbr_table_spec.specs.declared.Parent.TheVariants.{Held};
 ghost use Rattle.nbr_table_spec.specs.Calls.{choice as choiceWith};

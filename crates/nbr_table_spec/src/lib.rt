@@ -1,6 +1,7 @@
 // The neighbour table: its types, what each call answers (specs/), and the table without neighbours. A table goes in by value
 // and comes back by value. The rules are those of docs/RULES.md, Neighbours.
 #![tactic(auto)]
+
 ghost use Rattle.std.specs.Prelude.{◌≡◌};
 ghost use Rattle.nbr_table_spec.specs.Calls.{empty_table};
 
