@@ -1,6 +1,7 @@
 // The four calls of a neighbour table. Each gives a number and the table afterwards; a refused call gives back the table that it got.
 // `advertising`, `reporting` and `forgetting` find out on 32 places what a call stores; callers that keep a table in another form use them.
 #![tactic(auto)]
+
 ghost use Rattle.std.specs.Prelude.{◌≡◌};
 ghost use Rattle.nbr_table_spec.specs.Stores.{refusing, stored};
 

@@ -1,6 +1,7 @@
 // Runs a log of calls on a table, and counts what the claim that parents do not flap speaks of.
 // A log is four lent lists, one row for each call (specs/Log.antt of nbr_replay_spec).
 #![tactic(auto)]
+
 use nbr_replay_spec::Outcome;
 use nbr_table_spec::Table;
 

@@ -26,13 +26,7 @@ use Rattle.nbr_soundness_spec.proofs.Kept.{best_known, blank_fit, held_known, he
 
 pub evaluate_keeps_places : EvaluateKeepsPlaces
 unfolding evaluated chosen if_on if_lt
-evaluate_keeps_places t =
-    by_test (broken t) (λ h. rw h)
-    (λ h. by_test (eligible (best t.places))
-    (λ e. by_test (eligible (held t))
-    (λ f. by_test (ltb 640 (path_cost (held t) - path_cost (best t.places))) (λ g. rw (h, e, f, g)) (λ g. rw (h, e, f, g)))
-    (λ f. rw (h, e, f)))
-    (λ e. rw (h, e)))
+evaluate_keeps_places t = by_test (broken t) (λ h. rw h) (λ h. rw h)
 
 module _ (t : Table) (h : broken t ≡ false) where
   -- the best place is the one that its identifier leads to

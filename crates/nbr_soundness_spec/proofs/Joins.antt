@@ -19,7 +19,7 @@ use Rattle.nbr_table_spec.specs.declared.Parent.TheVariants.{None, Held}
 use Rattle.nbr_table_spec.specs.declared.Table.{Table}
 use Rattle.nbr_table_spec.specs.declared.Answer.{Answer}
 use Rattle.nbr_table_spec.specs.declared.Evaluation.{Evaluation}
-use Rattle.nbr_table_spec.specs.Calls.{advertised, answer, broken, chosen, empty_table, evaluated, evaluation, held, held_place, parent_missing, reported, with_parent}
+use Rattle.nbr_table_spec.specs.Calls.{advertised, answer, broken, chosen, empty_table, evaluated, evaluation, held, held_place, parent_missing, reported}
 use Rattle.nbr_soundness_spec.specs.Soundness.{FailedIsNotEligible, FreshTagJoins, JoinsThrough, ParentLost}
 use Rattle.nbr_soundness_spec.proofs.Kept.{calls_keep_tables}
 

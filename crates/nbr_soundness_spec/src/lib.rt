@@ -1,5 +1,6 @@
 // Theorems about the calls of the neighbour table (specs/Soundness.antt), and tables that meet their hypotheses (specs/Witness.antt).
 #![tactic(auto)]
+
 ghost use Rattle.nbr_soundness_spec.specs.Soundness.{BestComesFirst, BestIsAPlace, CallsKeepTables, ChangesGain641, EligibleCosts, EvaluateKeepsPlaces, FailedIsNotEligible, ForgetMakesRoom, FreshTagJoins, OwnRank};
 ghost use Rattle.nbr_soundness_spec.specs.Witness.{Witnessed};
 

@@ -1,5 +1,6 @@
 // Parents do not flap: definitions and theorems (specs/Stability.antt); the crate `nbr_replay` runs logs under them.
 #![tactic(auto)]
+
 ghost use Rattle.nbr_stability_spec.specs.Stability.{AtMost101Changes, BoundIsMet, NoneRefused, ParentsDoNotFlap, Reaches101};
 
 // Cites each theorem, so that the gate fails if the proof of one goes.

@@ -1,5 +1,6 @@
 // Whether a table breaks a rule, for which every call refuses it. The rules are those of docs/RULES.md, Neighbours.
 #![tactic(auto)]
+
 ghost use Rattle.std.specs.Prelude.{◌≡◌, ◌≤◌};
 ghost use Rattle.nbr_table_spec.specs.Calls.{broken};
 ghost use Rattle.nbr_table_spec.specs.Scan.{among};
