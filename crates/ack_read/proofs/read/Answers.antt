@@ -6,4 +6,4 @@ use borrow.Author.Rules.{rules}
 use Rattle.ack_read.proofs.read.Goals as goal
 
 pub returns : goal.returns
-returns c = let is = read_record _ _ _ c.read_form-reading.ensures.answer c.read_form-reading.ensures.record c.ack_of.ensures in record { answer = is; numbers = numbers_to_7; length = one_is_the_length; beacon = never_a_beacon_too; as_said = read_as_said _ (search rules) _ _ is }
+returns c = let is = read_record _ _ _ c.read_form-reading.ensures.answer c.read_form-reading.ensures.«record» c.ack_of.ensures in record { answer = is; numbers = numbers_to_7; length = one_is_the_length; beacon = never_a_beacon_too; as_said = read_as_said _ (search rules) _ _ is }
