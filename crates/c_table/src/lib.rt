@@ -1,5 +1,6 @@
 // Between the C form of a table and the table: the held parent, whether a C form is refused, and a change stored in it.
 #![tactic(auto)]
+
 ghost use Rattle.std.specs.Prelude.{◌≡◌, ◌<◌};
 ghost use Rattle.c_table_spec.specs.Table.{is_parent, parent_of, refused, stored_form, with_stored};
 

@@ -1,6 +1,7 @@
 // The C form of a neighbour table and of what the calls on it answer: structs without enums, laid out as C lays them out, and the
 // theorems that tie them to the tables of the rules (specs/). include/tesolvagna.h declares the same structs.
 #![tactic(auto)]
+
 ghost use Rattle.c_table_spec.specs.Claims.{AtMost101ChangesInC, CallsAgree, ChangesAreFlagged, EvaluationsAgree, FormsAreTables, NoneRefusedInC, ParentsDoNotFlapInC, RefusalsChangeNothing, TablesAreForms, Witnessed};
 
 use nbr_metric_spec::Place;
