@@ -55,7 +55,7 @@ fn put_header_name(buffer: &mut [u8], at: usize, place: usize) -> usize
     ensures { PartPut 40 buffer.old at (header_name place) buffer.new result }
 {
     match place {
-        0 => text_put::text(buffer, at, b"sequence_number_lem"),
+        0 => text_put::text(buffer, at, b"sequence-number"),
         1 => text_put::text(buffer, at, b"pan-id"),
         2 => text_put::text(buffer, at, b"source"),
         _ => at,

@@ -11,3 +11,6 @@ returns-in-2 c = search (rules, names, elementNames)
 
 pub returns-in_default : goal.returns-in_default
 returns-in_default c = search (rules, names, elementNames)
+
+pub returns-in-0 : goal.returns-in-0
+returns-in-0 c = search (rules, names, elementNames)

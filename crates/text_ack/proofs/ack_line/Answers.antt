@@ -1,0 +1,14 @@
+-- `text_ack::ack_line` meets its contract. Assumes nothing.
+use Rattle.text_put_spec.proofs.PartLaws.{lines}
+use Rattle.text_ack_spec.proofs.AckLineLaws.{ackLines}
+use borrow.Author.Rules.{rules}
+use Rattle.text_ack.proofs.ack_line.Goals as goal
+
+pub returns-then-buffer-lt-ROOM : goal.returns-then-buffer-lt-ROOM
+returns-then-buffer-lt-ROOM c = search (rules, lines, ackLines)
+
+pub returns-then-answer-ne-DONE : goal.returns-then-answer-ne-DONE
+returns-then-answer-ne-DONE c = search (rules, lines, ackLines)
+
+pub returns : goal.returns
+returns c = search (rules, lines, ackLines)

@@ -1,0 +1,7 @@
+-- `text_line::put_slotframe` meets its contract. Assumes nothing.
+use Rattle.text_line_spec.proofs.LineLaws.{beaconLines}
+use borrow.Author.Rules.{rules}
+use Rattle.text_line.proofs.put_slotframe.Goals as goal
+
+pub returns : goal.returns
+returns c = search (rules, beaconLines)
