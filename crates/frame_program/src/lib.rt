@@ -2,6 +2,7 @@
 // names, and the text goes out (docs/PROGRAMS.md). What is not about a frame is told on standard error. No contract can say what is read or
 // written. This file has what a program of one frame needs, src/two.rt what one of two frames does.
 #![tactic(auto)]
+
 ghost use Rattle.std.specs.Prelude.{length};
 ghost use Rattle.libc.specs.Io.{Moved, Status};
 

@@ -1,7 +1,4 @@
 -- `frame_program::read_frame` meets its contract. Assumes nothing.
-use Prim.Native.Nat.{◌-◌, ◌<◌, ◌≤◌}
-use mathlib.Core.Path.{◌≡◌}
-use lib.ListN.{length as len}
 use borrow.Author.Rules.{rules}
 use Rattle.frame_program.proofs.CountLaws.{counted}
 use Rattle.frame_program.proofs.read_frame.Goals as goal

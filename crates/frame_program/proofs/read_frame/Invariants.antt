@@ -2,8 +2,6 @@
 use Prim.Native.Nat.{◌-◌, ◌<◌, ◌≤◌}
 use mathlib.Core.Path.{◌≡◌}
 use lib.ListN.{length as len}
-use borrow.Author.Rules.{rules}
-use Rattle.frame_program.proofs.CountLaws.{counted}
 use Rattle.frame_program.proofs.read_frame.Given as goal
 
 abbrev pub invariant-loop-length : goal.invariant-loop-length
