@@ -4,14 +4,15 @@
 // What the program is called in what it tells.
 const PROGRAM: [u8; 5] = *b"bench";
 
-fn main() {
+fn main(rt: HostRuntime) {
+    let errors = rt.stderr();
     let mut frame = [0u8; frame_program::MOST_READ];
-    let got = frame_program::take(&PROGRAM, &mut frame);
+    let got = frame_program::take(&rt, &errors, &PROGRAM, &mut frame);
     if got < 0 {
         return;
     }
     let length = io::count(got, &frame);
     let mut buffer = [0u8; text_line::ROOM];
     let end = text_line::bench_line(&frame[..length], &mut buffer);
-    frame_program::print(&PROGRAM, &buffer[..end]);
+    frame_program::print(&rt, &errors, &PROGRAM, &buffer[..end]);
 }

@@ -1,0 +1,2 @@
+-- What the contracts of the programs' library cite. Assumes nothing.
+pub mod Counts
