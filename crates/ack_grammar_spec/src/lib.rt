@@ -1,6 +1,7 @@
 // The acknowledgements that are accepted, as a grammar (specs/Grammar.antt), and that reading accepts exactly those, with the record that each
 // says (specs/Claims.antt). Rows, descriptors, header elements, sequence numbers and addresses are those of the beacon's grammar.
 #![tactic(auto)]
+
 ghost use Rattle.ack_grammar_spec.specs.Claims.{Complete, IgnoredBitsDoNotCount, NothingBehindTheListCounts, OtherElementsDoNotCount, RefusedSaysNothing, ShortestIsOfTheGrammar, Sound, Unambiguous};
 
 // Cites each theorem, so that the gate fails if the proof of one goes.

@@ -1,5 +1,6 @@
 // Reading an acknowledgement: its number and its record.
 #![tactic(auto)]
+
 ghost use Rattle.std.specs.Prelude.{◌≡◌, true};
 ghost use Rattle.octets_spec.specs.Number.{le_at};
 ghost use Rattle.mac_header_spec.specs.Fields.{mac_header_of};

@@ -1,6 +1,7 @@
 // What reading an acknowledgement gives: its number and its record. Definitions (specs/) of the checks before the elements (Policy), of the
 // correction and of reading (Read), and theorems about every list of bytes (Claims, Witnesses).
 #![tactic(auto)]
+
 ghost use Rattle.ack_read_spec.specs.Claims.{FiveIsTheAddressing, FourIsSecurity, NeverABeaconToo, NumbersTo7, OneIsTheLength, ThreeIsTheType};
 ghost use Rattle.ack_read_spec.specs.Witnesses.{CorrectionsAreSigned, EachNumberIsGiven, ShortestIsRead};
 

@@ -2,6 +2,7 @@
 // and the blank record. The correction is wide enough to hold values outside its limits, so that a record that breaks them can be given and
 // refused.
 #![tactic(auto)]
+
 ghost use Rattle.std.specs.Prelude.{◌≡◌};
 ghost use Rattle.ack_record_spec.specs.Record.{blank_ack, form_of, ack_of, is_ack, FormsGiveTheRecord, RecordsGiveTheForm, FormsOfNoRecord};
 

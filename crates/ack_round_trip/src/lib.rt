@@ -1,5 +1,6 @@
 // Writing an acknowledgement and reading back what was written: every record that can be written comes back as itself.
 #![tactic(auto)]
+
 ghost use Rattle.std.specs.Prelude.{◌≡◌, length};
 ghost use Rattle.eb_write_spec.specs.Write.{buffer_for};
 ghost use Rattle.ack_write_spec.specs.Frame.{frame_of};

@@ -1,6 +1,7 @@
 // Writing and reading acknowledgements together: what is written is of the grammar and reads back, and what is read can be written
 // (specs/ReadBack.antt).
 #![tactic(auto)]
+
 ghost use Rattle.ack_round_trip_spec.specs.ReadBack.{AcceptedFits, AcceptedReadsBack, FormsReadBack, FramesDiffer, FramesReadBack, ReadFormsAreWritten, ShortestIsWrittenBack, WrittenIsNotLonger, WrittenIsOfTheGrammar};
 
 // Cites each theorem, so that the gate fails if the proof of one goes.

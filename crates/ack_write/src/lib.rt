@@ -1,5 +1,6 @@
 // Writing acknowledgements: the frame of a record, put into a lent buffer. Nothing is stored before the last check.
 #![tactic(auto)]
+
 ghost use Rattle.std.specs.Prelude.{◌≡◌, length};
 ghost use Rattle.eb_write_spec.specs.Write.{answer_for, buffer_for};
 ghost use Rattle.ack_write_spec.specs.Frame.{frame_of};

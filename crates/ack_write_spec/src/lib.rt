@@ -2,6 +2,7 @@
 // what holds of every record (specs/Claims.antt). The checks, the answer and the buffer are those of any record
 // (eb_write_spec/specs/Write.antt). The crate `ack_write` does it.
 #![tactic(auto)]
+
 ghost use Rattle.ack_write_spec.specs.Claims.{FormNumbers, LengthIsTheFormula, LengthsAreMet, LengthsFrom12To25, NeverTooLong, WriteNumbers};
 
 // Cites each theorem, so that the gate fails if the proof of one goes.

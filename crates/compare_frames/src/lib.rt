@@ -1,5 +1,6 @@
 // Two beacons side by side: reads both frames, and lists the fields in which their records differ.
 #![tactic(auto)]
+
 ghost use Rattle.std.specs.Prelude.{◌≡◌, ◌+◌, ◌<◌};
 ghost use Rattle.eb_fields_spec.specs.Fields.{content_at};
 ghost use Rattle.eb_read_spec.specs.Read.{read_frame};

@@ -1,5 +1,6 @@
 // Two beacons side by side: the fields in which their records differ, and what comparing two frames answers.
 #![tactic(auto)]
+
 ghost use Rattle.compare_spec.specs.Claims.{SameFieldsSameRecord, NoDifferenceWhenEqual, EachDiffers, NoneIsLeftOut, InOrder, ListedWhenBothDone, NamesStandInEveryList, ThereAreSuch};
 
 use eb_fields_spec::Content;

@@ -1,6 +1,7 @@
 // The decoder: from the bytes of a frame and the offsets that the walk noted to the record, in the form without enums. One test in front
 // says whether the noted elements lie inside the frame; behind it everything is read without a test.
 #![tactic(auto)]
+
 ghost use Rattle.std.specs.Prelude.{◌≡◌, true};
 ghost use Rattle.eb_record_spec.specs.Form.{is_beacon};
 ghost use Rattle.eb_read_spec.specs.Form.{decoded_form};

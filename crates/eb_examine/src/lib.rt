@@ -1,5 +1,6 @@
 // The checks of a frame: those before its elements, the walk over the elements, and what is missing.
 #![tactic(auto)]
+
 ghost use Rattle.std.specs.Prelude.{◌≡◌, ◌+◌, ◌≤◌, ◌<◌, ◌^◌};
 ghost use Rattle.mac_header_spec.specs.Fields.{mac_header_of};
 ghost use Rattle.ie_walk_spec.specs.Walk.{header_list, skipped_over};

@@ -19,10 +19,9 @@ use Rattle.eb_record_spec.specs.declared.TimeslotTemplate.{TimeslotTemplate}
 use Rattle.eb_record_spec.specs.declared.Slotframe.{Slotframe}
 use Rattle.eb_record_spec.specs.declared.Link.{Link}
 use Rattle.eb_record_spec.specs.declared.Beacon.{Beacon}
-use Rattle.eb_record_spec.specs.Record.{blank_link}
 use Rattle.eb_fields_spec.specs.declared.Content.{Content}
 use Rattle.eb_fields_spec.specs.Content.{absent_content, number_content, address_content, octets_content, sequence_content, content_if, flag_content}
-use Rattle.eb_fields_spec.specs.Fields.{Field, no_field, header_fields, synchronization_fields, timeslot_fields, hopping_fields, slotframe_fields, joining_fields, timing_content, timing_names, link_at, link_content, link_fields, fields, content_in, content_at}
+use Rattle.eb_fields_spec.specs.Fields.{Field, no_field, header_fields, synchronization_fields, timeslot_fields, slotframe_fields, joining_fields, timing_content, timing_names, link_at, link_content, link_fields, content_in, content_at}
 use Rattle.eb_fields_spec.proofs.PlaceLaws.{from_2, from_3, from_7, three_on, of_header, of_synchronization, of_timeslot, of_hopping, of_slotframe, of_joining, timing_at_lem, link_at_lem, link_row_lem}
 use Rattle.eb_fields.specs.Part.{link_number, links_content}
 

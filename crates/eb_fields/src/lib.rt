@@ -1,5 +1,6 @@
 // The fields of a record by their places in the list of fields (eb_fields_spec/specs/Fields.antt), and whether two contents differ.
 #![tactic(auto)]
+
 ghost use Rattle.std.specs.Prelude.{◌≡◌};
 ghost use Rattle.eb_fields_spec.specs.Content.{absent_content, number_content, address_content, octets_content, sequence_content, content_if, flag_content};
 ghost use Rattle.eb_fields.specs.Same.{TellsSame};

@@ -1,5 +1,6 @@
 // What a field of a beacon's record holds. The list of the fields stands in specs/Fields.antt.
 #![tactic(auto)]
+
 ghost use Rattle.std.specs.Prelude.{◌≡◌};
 
 // The kinds of content.

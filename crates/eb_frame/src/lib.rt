@@ -1,5 +1,6 @@
 // The frame of a record, put at the start of a lent buffer; past its end nothing is stored.
 #![tactic(auto)]
+
 ghost use Rattle.std.specs.Prelude.{◌≡◌, [], ◌++◌, ◌+◌, ◌≤◌, ◌<◌, ◌^◌, length, take};
 ghost use Rattle.octets_spec.specs.Choice.{if_on};
 ghost use Rattle.octets_spec.specs.Number.{le_bytes, be_bytes, stored};

@@ -1,6 +1,7 @@
 // The frames that are accepted, as a grammar (specs/Grammar.antt); that reading accepts exactly those, with the record that each says
 // (specs/Claims.antt); what follows from that (specs/Follows.antt); and frames of it (specs/Witnesses.antt).
 #![tactic(auto)]
+
 ghost use Rattle.eb_grammar_spec.specs.Claims.{Complete, RefusedSaysNothing, Sound, Unambiguous};
 ghost use Rattle.eb_grammar_spec.specs.Follows.{BothTimingFormsSayTheSame, BytesBehindGroup15DoNotCount, HeaderElementsDoNotCount, IgnoredBitsDoNotCount, KnownContentsCount, NothingCountsBehind7F, OrderDoesNotCount, ReservedJoiningBitsDoNotCount, UnknownElementsDoNotCount, UnknownSubElementsDoNotCount};
 ghost use Rattle.eb_grammar_spec.specs.Witnesses.{AnUnknownElementIsPutIn, ManifoldIsOfTheGrammar, ShortestIsOfTheGrammar};

@@ -1,6 +1,7 @@
 // Whether a record is within the limits of writing (eb_write_spec/specs/Limits.antt), and how many bytes its frame has (`sizes`). A number
 // that fits by its type is not tested, but for what a variant holds.
 #![tactic(auto)]
+
 ghost use Rattle.std.specs.Prelude.{◌≡◌, ◌≤◌, length};
 ghost use Rattle.eb_write_spec.specs.Limits.{sequence_fits, synchronization_fits, template_fits, link_fits, link_unused, slotframe_fits, proxy_fits, present_fits, absent_fits, joining_fits, fits};
 ghost use Rattle.eb_record_spec.specs.Form.{address_fits};

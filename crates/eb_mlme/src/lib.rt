@@ -1,5 +1,6 @@
 // The MLME group of a frame, put into a lent buffer from an offset on; past the end of the buffer nothing is stored.
 #![tactic(auto)]
+
 ghost use Rattle.std.specs.Prelude.{◌≡◌, ◌++◌, ◌+◌, ◌*◌, ◌≤◌, ◌<◌, ◌^◌, length, take, drop};
 ghost use Rattle.octets_spec.specs.Number.{le_bytes, stored};
 ghost use Rattle.eb_write_spec.specs.Frame.{mlme_group, slotframe_id, group_descriptor, short_descriptor, numbers_in, last_width, link_bytes, links_bytes, synchronization_bytes, template_bytes, hopping_bytes, slotframe_bytes, group_size, group_bytes};

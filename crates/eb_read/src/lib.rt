@@ -1,5 +1,6 @@
 // Reading a beacon: its number and its record, and its network ID as a part of the frame.
 #![tactic(auto)]
+
 ghost use Rattle.std.specs.Prelude.{◌≡◌};
 ghost use Rattle.eb_read_spec.specs.Read.{read_frame};
 ghost use Rattle.eb_grammar_spec.specs.Claims.{ReadAsSaid};

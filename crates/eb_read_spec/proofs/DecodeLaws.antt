@@ -4,7 +4,7 @@ use mathlib.Core.Path.{◌≡◌, refl, ◌∙◌}
 use mathlib.Core.Bool.{true, false}
 use mathlib.Core.List.{List}
 use lib.Dec.{eqb}
-use lib.ListN.{length, get_or, replicate}
+use lib.ListN.{get_or, replicate}
 use Rattle.octets_spec.specs.Choice.{if_eq}
 use Rattle.octets_spec.specs.Number.{le_at, be_at}
 use Rattle.octets_spec.specs.Counted.{counted, padded}

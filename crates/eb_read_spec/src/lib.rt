@@ -2,6 +2,7 @@
 // (Decode), of the checks (Policy, Read), of the form without enums (Form) and of the network ID (Network), and theorems about every list of
 // bytes (Claims, Inside, Network).
 #![tactic(auto)]
+
 ghost use Rattle.eb_read_spec.specs.Claims.{AcceptedMayBeDecidedOn, BoundsDoNotMatter, FiveIsTheAddressing, FourIsSecurity, NumbersTo8, OneIsTheLength, SkippedFitTheFrame, ThreeIsTheType};
 ghost use Rattle.eb_read_spec.specs.Inside.{AcceptedLiesInside};
 ghost use Rattle.eb_read_spec.specs.Network.{NetworkIsTheRecords, NetworkLiesInside};

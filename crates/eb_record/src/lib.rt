@@ -1,5 +1,6 @@
 // The record of a form without enums, as C has it, which forms are a record's (eb_record_spec/specs/Form.antt), and the blank record.
 #![tactic(auto)]
+
 ghost use Rattle.std.specs.Prelude.{◌≡◌};
 ghost use Rattle.eb_record_spec.specs.Record.{blank_beacon};
 ghost use Rattle.eb_record_spec.specs.Form.{form_of, sequence_from, address_from, beacon_of, is_beacon};

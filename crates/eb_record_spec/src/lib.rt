@@ -1,6 +1,7 @@
 // The beacon record: what an Enhanced Beacon says, field by field in the order on air, and its form without enums, as C has it.
 // Fields are wide enough to hold values outside their limits, so that a record that breaks a limit can be given and refused.
 #![tactic(auto)]
+
 ghost use Rattle.std.specs.Prelude.{◌≡◌};
 ghost use Rattle.eb_record_spec.specs.Form.{FormsGiveTheRecord, RecordsGiveTheForm, ExtendedHasItsForm, FormsOfNoRecord};
 ghost use Rattle.eb_record_spec.specs.Record.{blank_joining, blank_link};

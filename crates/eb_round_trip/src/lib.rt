@@ -1,5 +1,6 @@
 // Writing a record and reading back what was written: every record that can be written comes back as itself.
 #![tactic(auto)]
+
 ghost use Rattle.std.specs.Prelude.{◌≡◌, length};
 ghost use Rattle.eb_write_spec.specs.Write.{buffer_after};
 ghost use Rattle.eb_round_trip_spec.specs.RoundTrip.{refused_as, back_from};

@@ -4,7 +4,7 @@ use mathlib.Core.Path.{◌≡◌, refl}
 use mathlib.Core.Bool.{true, false}
 use mathlib.Core.List.{[], ◌∷◌, ◌++◌}
 use native.Mathlib.Omega.{arith}
-use lib.ListN.{length, replicate}
+use lib.ListN.{replicate}
 use Rattle.octets_spec.specs.Choice.{if_on, if_lt}
 use Rattle.octets_spec.specs.Number.{le_bytes, be_bytes}
 use Rattle.eb_record_spec.specs.Record.{blank_link}

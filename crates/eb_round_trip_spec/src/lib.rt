@@ -1,6 +1,7 @@
 // Theorems about writing and reading: what is written reads back (specs/ReadBack.antt), what reading accepts can be written
 // (specs/Accepted.antt), and what comes back of a record that is written and read (specs/RoundTrip.antt).
 #![tactic(auto)]
+
 ghost use Rattle.eb_round_trip_spec.specs.Accepted.{AcceptedFits, AcceptedReadsBack, ReadFormsAreWritten, ShortestFormIsWritten, ShortestIsWrittenBack, WrittenIsNotLonger, WrittenIsShort};
 ghost use Rattle.eb_round_trip_spec.specs.ReadBack.{WrittenIsOfTheGrammar, FramesReadBack, FormsReadBack, FramesDiffer, LengthIsTheFormula, LengthsFrom38To177, LengthsAreMet, FullRecordIsWritable};
 

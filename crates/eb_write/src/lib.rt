@@ -1,5 +1,6 @@
 // Writing beacons: the frame of a record, put into a lent buffer. Nothing is stored before the last check.
 #![tactic(auto)]
+
 ghost use Rattle.std.specs.Prelude.{◌≡◌, length};
 ghost use Rattle.eb_write_spec.specs.Write.{written_in, buffer_after};
 ghost use Rattle.eb_write_spec.specs.Claims.{WriteNumbers};

@@ -1,6 +1,7 @@
 // One step of each list of elements: what stands at an offset and where it leads. A list lies from an offset to an end, which is a
 // parameter: nothing here asks how long the slice is.
 #![tactic(auto)]
+
 ghost use Rattle.std.specs.Prelude.{◌≡◌, ◌+◌, ◌≤◌, ◌<◌};
 ghost use Rattle.ie_step_spec.specs.Header.{header_word, header_at, header_within};
 ghost use Rattle.ie_step_spec.specs.Payload.{group_of, outer_word, outer_at, outer_within, inner_word, inner_at, inner_within};

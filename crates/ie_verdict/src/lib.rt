@@ -1,6 +1,7 @@
 // Whether a known element is as it should be: for each element a row of tests on plain numbers, in the order of the rules. `seen` is
 // the offset of an element of that kind that was taken before, and 0 if there was none: no element starts at 0.
 #![tactic(auto)]
+
 ghost use Rattle.std.specs.Prelude.{◌≡◌, ◌<◌};
 ghost use Rattle.ie_verdict_spec.specs.Verdict.{once_only, sync_fault, timeslot_fault, hopping_fault, joining_fault, part_fault};
 

@@ -1,6 +1,7 @@
 // The MAC header of a frame: frame control taken apart, the fixed fields, and where the elements start and end. Nothing here says which
 // frames are accepted.
 #![tactic(auto)]
+
 ghost use Rattle.std.specs.Prelude.{◌≡◌, ◌≤◌, ◌<◌, get_or};
 ghost use Rattle.octets_spec.specs.Choice.{if_eq};
 ghost use Rattle.octets_spec.specs.Number.{le_at};

@@ -4,7 +4,7 @@ use Prim.Native.Nat.{ℕ, suc, ◌+◌, ◌*◌, ◌-◌, ◌/◌, ◌<◌, ◌�
 use native.Mathlib.Nat.{lt-div-mul-add, div-lt_iff_lt-mul, div-le_self, lt_of_mul-lt-mul_right, suc-mul}
 use native.Mathlib.Omega.{arith}
 use mathlib.Core.Path.{◌≡◌, refl, sym, ◌∙◌}
-use mathlib.Core.Bool.{Bool, true, false, ◌&&◌, ◌||◌, and-eq-true_iff, and-false, or-true}
+use mathlib.Core.Bool.{true, false, ◌&&◌, ◌||◌, and-eq-true_iff, and-false, or-true}
 use lib.Dec.{eqb, leb, ltb}
 use Rattle.octets_spec.specs.Choice.{if_on}
 use borrow.Author.Tests.{eq-eqb, le-leb, lt-leb, leb-true, le-ltb, lt-ltb}

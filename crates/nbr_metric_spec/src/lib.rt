@@ -1,5 +1,6 @@
 // One neighbour of the table: its place, and what the rules measure of it (specs/). The rules are those of docs/RULES.md, Neighbours.
 #![tactic(auto)]
+
 ghost use Rattle.std.specs.Prelude.{◌≡◌};
 ghost use Rattle.nbr_metric_spec.specs.Metric.{blank as freePlace};
 

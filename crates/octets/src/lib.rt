@@ -1,5 +1,6 @@
 // Numbers in bytes, of any width and in either byte order: read from a lent slice, and put into one.
 #![tactic(auto)]
+
 ghost use Rattle.std.specs.Prelude.{◌≡◌, ◌-◌};
 ghost use Rattle.octets_spec.specs.Choice.{if_eq};
 

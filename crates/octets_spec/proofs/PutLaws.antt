@@ -1,6 +1,6 @@
 -- The laws of putting numbers: what a loop that puts byte after byte has still to put, and that what was put reads back.
 -- Each is stated once over the width. Assumes nothing.
-use Prim.Native.Nat.{ℕ, zero, suc, ◌+◌, ◌-◌, ◌*◌, ◌/◌, ◌%◌, ◌^◌, ◌<◌, ◌≤◌}
+use Prim.Native.Nat.{ℕ, zero, suc, ◌+◌, ◌-◌, ◌/◌, ◌%◌, ◌^◌, ◌<◌, ◌≤◌}
 use mathlib.Core.Path.{◌≡◌, refl, sym, ◌∙◌, ap}
 use mathlib.Core.List.{List, [], ◌∷◌, ◌++◌}
 use native.Mathlib.Nat.{pow-suc, pow-succ', one-le-pow, add-zero, sub-zero, div-one, div-div-eq-div-mul, mod-one, mul_comm}

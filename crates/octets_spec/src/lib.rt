@@ -1,5 +1,6 @@
 // What definitions are written with: choices, lists that are counted out, and numbers in bytes (specs/), with their laws (proofs/).
 #![tactic(auto)]
+
 ghost use Rattle.octets_spec.specs.Number.{le_at, be_at, le_bytes, be_bytes, ReadsBack, ReadsBackInABuffer};
 
 // Cites each theorem, so that the gate fails if the proof of one goes.

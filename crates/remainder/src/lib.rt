@@ -1,5 +1,6 @@
 // The remainder of a 64-bit number, as of an ASN by the size of a slotframe.
 #![tactic(auto)]
+
 ghost use Rattle.std.specs.Prelude.{◌≡◌};
 ghost use Rattle.remainder.specs.Remainder.{remainder_of};
 

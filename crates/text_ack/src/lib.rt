@@ -1,6 +1,7 @@
 // The line that the reading of an acknowledgement is printed as, put into a lent buffer. Each of its numbers has at most the 20 digits of a
 // u64, so that 192 bytes hold every line.
 #![tactic(auto)]
+
 ghost use Rattle.std.specs.Prelude.{◌≡◌, ◌+◌, nat_abs, pos, length};
 ghost use Rattle.std.specs.Int.Signed.{lt_z};
 ghost use Rattle.io.specs.Counts.{IsPrefixLen};

@@ -1,5 +1,6 @@
 // The text that a comparison of two beacons is printed as, put into a lent buffer: a line for each field that differs, or the line of a refusal.
 #![tactic(auto)]
+
 ghost use Rattle.std.specs.Prelude.{◌≡◌, min, length, take};
 ghost use Rattle.io.specs.Counts.{IsPrefixLen};
 ghost use Rattle.text_put_spec.specs.Part.{starts_with, PartPut};

@@ -13,7 +13,7 @@ use Rattle.text_put_spec.specs.Part.{field, PartPut}
 use Rattle.text_put_spec.proofs.PartLaws.{row, wider, nothing_put}
 use Rattle.text_put_spec.specs.Text.{decimal}
 use Rattle.eb_fields_spec.specs.Names.{hopping_name, link_name, link_timeslot_name, link_offset_name, link_options_name, link_field_name}
-use Rattle.eb_fields_spec.specs.Fields.{Field, no_field, header_fields, synchronization_fields, timing_names, timing_fields, timeslot_fields, link_fields, slotframe_fields, joining_fields, name_in, name_at}
+use Rattle.eb_fields_spec.specs.Fields.{Field, no_field, header_fields, synchronization_fields, timing_names, timing_fields, link_fields, slotframe_fields, joining_fields, name_in, name_at}
 use Rattle.eb_fields_spec.proofs.PlaceLaws.{from_2, from_3, from_7, from_12, three_on, of_header, of_synchronization, of_timeslot, of_hopping, of_slotframe, of_joining, link_at_lem, link_row_lem}
 use Rattle.text_fields.specs.Part.{header_name, synchronization_name, timing_name, timeslot_name, part_name, links_name, slotframe_name, joining_name}
 

@@ -1,5 +1,6 @@
 // The name and the content of a field, put into a lent buffer as text.
 #![tactic(auto)]
+
 ghost use Rattle.std.specs.Prelude.{◌≡◌, min};
 ghost use Rattle.text_put_spec.specs.Part.{PartPut};
 ghost use Rattle.eb_fields_spec.specs.Fields.{name_at};

@@ -1,6 +1,7 @@
 // The line that a reading is printed as, put into a lent buffer. Each of its numbers has at most the 20 digits of a u64, so that 128
 // bytes hold every line.
 #![tactic(auto)]
+
 ghost use Rattle.std.specs.Prelude.{◌≡◌, length};
 ghost use Rattle.io.specs.Counts.{IsPrefixLen};
 ghost use Rattle.text_put_spec.specs.Part.{starts_with, PartPut};

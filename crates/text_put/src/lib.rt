@@ -2,6 +2,7 @@
 // offset behind what it put. A text or a number that does not fit is not put at all: the buffer is then as it was, and the answer is the
 // offset itself.
 #![tactic(auto)]
+
 ghost use Rattle.std.specs.Prelude.{◌≡◌, ◌+◌, ◌*◌, ◌≤◌, length};
 ghost use Rattle.octets_spec.specs.Number.{stored};
 ghost use Rattle.text_put_spec.specs.Text.{decimal as text_decimal, hexadecimal, hex_octets, fitting};

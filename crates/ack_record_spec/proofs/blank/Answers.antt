@@ -3,7 +3,6 @@ use mathlib.Core.Path.{refl}
 use Rattle.octets_spec.specs.Choice.{if_on}
 use Rattle.eb_record_spec.specs.Form.{is_sequenced, sequence_number, is_extended, address_number, sequence_from, address_from}
 use Rattle.ack_record_spec.specs.Record.{blank_ack, form_of, ack_of}
-use borrow.Author.Rules.{rules}
 use Rattle.ack_record_spec.proofs.blank.Goals as goal
 
 pub returns : goal.returns

@@ -1,10 +1,6 @@
 -- `compare_frames::differences` meets its contract. Assumes nothing.
-use Prim.Native.Nat.{◌-◌, ◌≤◌}
-use mathlib.Core.Path.{◌≡◌}
 use borrow.Author.Rules.{rules}
-use Rattle.compare_spec.specs.Compare.{list_of}
 use Rattle.compare_frames.proofs.CompareLaws.{comparing}
-use Rattle.compare_frames.specs.UpTo.{up_to}
 use Rattle.compare_frames.proofs.differences.Goals as goal
 
 pub no_list-found-requires : goal.no_list-found-requires

@@ -1,9 +1,7 @@
 -- `compare_frames::differences` meets its contract. Assumes nothing.
 use Prim.Native.Nat.{◌-◌, ◌≤◌}
 use mathlib.Core.Path.{◌≡◌}
-use borrow.Author.Rules.{rules}
 use Rattle.compare_spec.specs.Compare.{list_of}
-use Rattle.compare_frames.proofs.CompareLaws.{comparing}
 use Rattle.compare_frames.specs.UpTo.{up_to}
 use Rattle.compare_frames.proofs.differences.Given as goal
 

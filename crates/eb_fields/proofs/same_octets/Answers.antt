@@ -1,7 +1,4 @@
 -- `eb_fields::same_octets` meets its contract. Assumes nothing.
-use Prim.Native.Nat.{◌-◌, ◌≤◌}
-use mathlib.Core.Path.{◌≡◌}
-use lib.ListN.{take}
 use borrow.Author.Rules.{rules}
 use Rattle.eb_fields.proofs.SameLaws.{octets_differ, sameness}
 use Rattle.eb_fields.proofs.same_octets.Goals as goal

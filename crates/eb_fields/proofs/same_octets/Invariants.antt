@@ -2,8 +2,6 @@
 use Prim.Native.Nat.{◌-◌, ◌≤◌}
 use mathlib.Core.Path.{◌≡◌}
 use lib.ListN.{take}
-use borrow.Author.Rules.{rules}
-use Rattle.eb_fields.proofs.SameLaws.{octets_differ, sameness}
 use Rattle.eb_fields.proofs.same_octets.Given as goal
 
 abbrev pub invariant-loop-i : goal.invariant-loop-i

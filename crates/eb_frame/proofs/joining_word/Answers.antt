@@ -1,6 +1,5 @@
 -- `eb_frame::joining_word` meets its contract. Assumes nothing.
 use Rattle.eb_frame.proofs.JoiningLaws.{word_is}
-use borrow.Author.Rules.{rules}
 use Rattle.eb_frame.proofs.joining_word.Goals as goal
 
 pub returns : goal.returns

@@ -1,6 +1,5 @@
 -- `eb_frame::put_elements` meets its contract. Assumes nothing.
 use Rattle.eb_frame.proofs.FramingLaws.{elements_put}
-use borrow.Author.Rules.{rules}
 use Rattle.eb_frame.proofs.put_elements.Goals as goal
 
 pub returns : goal.returns

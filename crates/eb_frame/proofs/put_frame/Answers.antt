@@ -1,6 +1,5 @@
 -- `eb_frame::put_frame` meets its contract. Assumes nothing.
 use Rattle.eb_frame.proofs.FramingLaws.{frame_put}
-use borrow.Author.Rules.{rules}
 use Rattle.eb_frame.proofs.put_frame.Goals as goal
 
 pub returns : goal.returns

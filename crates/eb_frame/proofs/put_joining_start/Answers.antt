@@ -1,6 +1,5 @@
 -- `eb_frame::put_joining_start` meets its contract. Assumes nothing.
 use Rattle.eb_frame.proofs.JoiningLaws.{joining_starts}
-use borrow.Author.Rules.{rules}
 use Rattle.eb_frame.proofs.put_joining_start.Goals as goal
 
 pub returns : goal.returns

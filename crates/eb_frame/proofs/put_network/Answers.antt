@@ -1,8 +1,4 @@
 -- `eb_frame::put_network` meets its contract. Assumes nothing.
-use Prim.Native.Nat.{◌+◌, ◌-◌, ◌≤◌}
-use mathlib.Core.Path.{◌≡◌}
-use lib.ListN.{length, take, drop}
-use Rattle.octets_spec.specs.Number.{stored}
 use Rattle.eb_frame.proofs.JoiningLaws.{bytes_next, joinings}
 use borrow.Author.Rules.{rules}
 use Rattle.eb_frame.proofs.put_network.Goals as goal

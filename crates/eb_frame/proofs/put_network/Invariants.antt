@@ -3,8 +3,6 @@ use Prim.Native.Nat.{◌+◌, ◌-◌, ◌≤◌}
 use mathlib.Core.Path.{◌≡◌}
 use lib.ListN.{length, take, drop}
 use Rattle.octets_spec.specs.Number.{stored}
-use Rattle.eb_frame.proofs.JoiningLaws.{bytes_next, joinings}
-use borrow.Author.Rules.{rules}
 use Rattle.eb_frame.proofs.put_network.Given as goal
 
 abbrev pub invariant-loop-i : goal.invariant-loop-i

@@ -1,6 +1,5 @@
 -- `eb_limits::absent_fits` meets its contract. Assumes nothing.
 use Rattle.eb_limits.proofs.LimitLaws.{absent_is}
-use borrow.Author.Rules.{rules}
 use Rattle.eb_limits.proofs.absent_fits.Goals as goal
 
 pub returns : goal.returns

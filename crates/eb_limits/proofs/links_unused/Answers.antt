@@ -1,9 +1,4 @@
 -- `eb_limits::links_unused` meets its contract. Assumes nothing.
-use lib.ListN.{length}
-use Prim.Native.Nat.{◌≤◌}
-use mathlib.Core.Path.{◌≡◌}
-use Rattle.eb_write_spec.specs.Range.{all_from}
-use Rattle.eb_write_spec.specs.Limits.{link_unused}
 use Rattle.eb_write_spec.proofs.RangeLaws.{ranges}
 use borrow.Author.Rules.{rules}
 use Rattle.eb_limits.proofs.links_unused.Goals as goal

@@ -4,8 +4,6 @@ use Prim.Native.Nat.{◌≤◌}
 use mathlib.Core.Path.{◌≡◌}
 use Rattle.eb_write_spec.specs.Range.{all_from}
 use Rattle.eb_write_spec.specs.Limits.{link_unused}
-use Rattle.eb_write_spec.proofs.RangeLaws.{ranges}
-use borrow.Author.Rules.{rules}
 use Rattle.eb_limits.proofs.links_unused.Given as goal
 
 abbrev pub invariant-loop-i : goal.invariant-loop-i

@@ -1,7 +1,4 @@
 -- `eb_limits::timings_below` meets its contract. Assumes nothing.
-use Prim.Native.Nat.{◌≤◌}
-use mathlib.Core.Path.{◌≡◌}
-use Rattle.eb_write_spec.specs.Range.{all_from, below}
 use Rattle.eb_write_spec.proofs.RangeLaws.{ranges}
 use borrow.Author.Rules.{rules}
 use Rattle.eb_limits.proofs.timings_below.Goals as goal

@@ -2,8 +2,6 @@
 use Prim.Native.Nat.{◌≤◌}
 use mathlib.Core.Path.{◌≡◌}
 use Rattle.eb_write_spec.specs.Range.{all_from, below}
-use Rattle.eb_write_spec.proofs.RangeLaws.{ranges}
-use borrow.Author.Rules.{rules}
 use Rattle.eb_limits.proofs.timings_below.Given as goal
 
 abbrev pub invariant-loop-i : goal.invariant-loop-i

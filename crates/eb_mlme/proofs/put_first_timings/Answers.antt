@@ -1,9 +1,4 @@
 -- `eb_mlme::put_first_timings` meets its contract. Assumes nothing.
-use Prim.Native.Nat.{◌+◌, ◌-◌, ◌*◌, ◌≤◌}
-use mathlib.Core.Path.{◌≡◌}
-use lib.ListN.{length, take, drop}
-use Rattle.octets_spec.specs.Number.{stored}
-use Rattle.eb_write_spec.specs.Frame.{numbers_in}
 use Rattle.eb_mlme.proofs.TemplateLaws.{templates}
 use borrow.Author.Rules.{rules}
 use Rattle.eb_mlme.proofs.put_first_timings.Goals as goal

@@ -4,8 +4,6 @@ use mathlib.Core.Path.{◌≡◌}
 use lib.ListN.{length, take, drop}
 use Rattle.octets_spec.specs.Number.{stored}
 use Rattle.eb_write_spec.specs.Frame.{numbers_in}
-use Rattle.eb_mlme.proofs.TemplateLaws.{templates}
-use borrow.Author.Rules.{rules}
 use Rattle.eb_mlme.proofs.put_first_timings.Given as goal
 
 abbrev pub invariant-loop-i : goal.invariant-loop-i

@@ -1,6 +1,5 @@
 -- `eb_mlme::put_group_rest` meets its contract. Assumes nothing.
 use Rattle.eb_mlme.proofs.GroupLaws.{rest_put}
-use borrow.Author.Rules.{rules}
 use Rattle.eb_mlme.proofs.put_group_rest.Goals as goal
 
 pub returns : goal.returns

@@ -1,6 +1,5 @@
 -- `eb_mlme::put_group_start` meets its contract. Assumes nothing.
 use Rattle.eb_mlme.proofs.GroupLaws.{group_starts}
-use borrow.Author.Rules.{rules}
 use Rattle.eb_mlme.proofs.put_group_start.Goals as goal
 
 pub returns : goal.returns

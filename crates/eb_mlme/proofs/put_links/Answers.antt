@@ -1,9 +1,4 @@
 -- `eb_mlme::put_links` meets its contract. Assumes nothing.
-use Prim.Native.Nat.{◌+◌, ◌-◌, ◌*◌, ◌≤◌}
-use mathlib.Core.Path.{◌≡◌}
-use lib.ListN.{length, take, drop}
-use Rattle.octets_spec.specs.Number.{stored}
-use Rattle.eb_write_spec.specs.Frame.{links_bytes}
 use Rattle.eb_mlme.proofs.SlotframeLaws.{links_next, slotframes}
 use borrow.Author.Rules.{rules}
 use Rattle.eb_mlme.proofs.put_links.Goals as goal

@@ -4,8 +4,6 @@ use mathlib.Core.Path.{◌≡◌}
 use lib.ListN.{length, take, drop}
 use Rattle.octets_spec.specs.Number.{stored}
 use Rattle.eb_write_spec.specs.Frame.{links_bytes}
-use Rattle.eb_mlme.proofs.SlotframeLaws.{links_next, slotframes}
-use borrow.Author.Rules.{rules}
 use Rattle.eb_mlme.proofs.put_links.Given as goal
 
 abbrev pub invariant-loop-i : goal.invariant-loop-i

@@ -1,6 +1,5 @@
 -- `eb_mlme::put_template` meets its contract. Assumes nothing.
 use Rattle.eb_mlme.proofs.TemplateLaws.{template_timed, template_bare}
-use borrow.Author.Rules.{rules}
 use Rattle.eb_mlme.proofs.put_template.Goals as goal
 
 pub returns-then-template : goal.returns-then-template

@@ -1,6 +1,5 @@
 -- `eb_mlme::synchronization_number` meets its contract. Assumes nothing.
 use Rattle.eb_mlme.proofs.GroupLaws.{synchronization_number}
-use borrow.Author.Rules.{rules}
 use Rattle.eb_mlme.proofs.synchronization_number.Goals as goal
 
 pub returns : goal.returns

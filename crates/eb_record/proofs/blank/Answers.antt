@@ -2,7 +2,6 @@
 use mathlib.Core.Path.{refl}
 use Rattle.octets_spec.specs.Choice.{if_on}
 use Rattle.eb_record_spec.specs.Form.{is_sequenced, sequence_number, is_extended, address_number, form_of, sequence_from, address_from, beacon_of}
-use borrow.Author.Rules.{rules}
 use Rattle.eb_record.proofs.blank.Goals as goal
 
 pub returns : goal.returns

@@ -1,7 +1,6 @@
 -- `eb_round_trip::refused` meets its contract. Assumes nothing.
 use mathlib.Core.Path.{ap}
 use Rattle.eb_record_spec.specs.declared.Beacon.{Beacon}
-use borrow.Author.Rules.{rules}
 use Rattle.eb_round_trip.proofs.refused.Goals as goal
 
 pub returns : goal.returns

@@ -1,6 +1,5 @@
 -- `remainder::remainder` meets its contract. Assumes nothing.
-use Rattle.remainder.proofs.RemainderLaws.{by_nothing, by_some, rest_fits}
-use borrow.Author.Rules.{rules}
+use Rattle.remainder.proofs.RemainderLaws.{by_nothing, by_some}
 use Rattle.remainder.proofs.remainder.Goals as goal
 
 pub returns-then-divisor-eq0 : goal.returns-then-divisor-eq0

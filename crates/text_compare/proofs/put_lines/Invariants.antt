@@ -2,11 +2,8 @@
 use Prim.Native.Nat.{◌*◌, ◌-◌, ◌≤◌}
 use mathlib.Core.Path.{◌≡◌}
 use lib.ListN.{length, take}
-use borrow.Author.Rules.{rules}
 use Rattle.text_put_spec.specs.Part.{PartPut}
 use Rattle.text_compare_spec.specs.CompareText.{lines_text}
-use Rattle.text_compare_spec.proofs.CompareTextLaws.{lines_next, lines_end, compareTexts}
-use Rattle.octets_spec.proofs.CountedLaws.{length_mapped}
 use Rattle.text_compare.proofs.put_lines.Given as goal
 
 abbrev pub invariant-loop-i : goal.invariant-loop-i

@@ -1,9 +1,5 @@
 -- `text_put::octets` meets its contract. Assumes nothing.
-use Prim.Native.Nat.{◌*◌, ◌-◌, ◌≤◌}
-use lib.ListN.{length, take}
 use borrow.Author.Rules.{rules}
-use Rattle.text_put_spec.specs.Text.{hex_octets}
-use Rattle.text_put_spec.specs.Part.{PartPut}
 use Rattle.text_put_spec.proofs.PartLaws.{parts}
 use Rattle.text_put.proofs.octets.Goals as goal
 

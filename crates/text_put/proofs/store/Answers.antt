@@ -1,9 +1,5 @@
 -- `text_put::store` meets its contract. Assumes nothing.
-use Prim.Native.Nat.{◌+◌, ◌-◌, ◌≤◌}
-use mathlib.Core.Path.{◌≡◌}
-use lib.ListN.{length, drop}
 use borrow.Author.Rules.{rules}
-use Rattle.octets_spec.specs.Number.{stored}
 use Rattle.text_put_spec.proofs.TextLaws.{texts}
 use Rattle.text_put.proofs.store.Goals as goal
 

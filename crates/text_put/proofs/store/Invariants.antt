@@ -2,9 +2,7 @@
 use Prim.Native.Nat.{◌+◌, ◌-◌, ◌≤◌}
 use mathlib.Core.Path.{◌≡◌}
 use lib.ListN.{length, drop}
-use borrow.Author.Rules.{rules}
 use Rattle.octets_spec.specs.Number.{stored}
-use Rattle.text_put_spec.proofs.TextLaws.{texts}
 use Rattle.text_put.proofs.store.Given as goal
 
 abbrev pub invariant-loop-i : goal.invariant-loop-i

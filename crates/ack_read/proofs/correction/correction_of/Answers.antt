@@ -1,6 +1,5 @@
 -- `ack_read::correction::correction_of` meets its contract. Assumes nothing.
 use Rattle.ack_read.proofs.DecodeLaws.{correction_low, correction_fits, correction_high}
-use borrow.Author.Rules.{rules}
 use Rattle.ack_read.proofs.correction.correction_of.Goals as goal
 
 pub returns-then-bits-lt2048 : goal.returns-then-bits-lt2048

@@ -1,6 +1,5 @@
 -- `ack_read::correction::find` meets its contract. Assumes nothing.
-use Prim.Native.Nat.{◌-◌}
-use Rattle.ack_read_spec.proofs.FoundLaws.{FoundLeads, founds}
+use Rattle.ack_read_spec.proofs.FoundLaws.{founds}
 use borrow.Author.Rules.{rules}
 use Rattle.ack_read.proofs.correction.find.Goals as goal
 

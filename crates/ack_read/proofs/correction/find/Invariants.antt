@@ -1,7 +1,6 @@
 -- `ack_read::correction::find` meets its contract. Assumes nothing.
 use Prim.Native.Nat.{◌-◌}
-use Rattle.ack_read_spec.proofs.FoundLaws.{FoundLeads, founds}
-use borrow.Author.Rules.{rules}
+use Rattle.ack_read_spec.proofs.FoundLaws.{FoundLeads}
 use Rattle.ack_read.proofs.correction.find.Given as goal
 
 abbrev pub invariant-loop-id : goal.invariant-loop-id

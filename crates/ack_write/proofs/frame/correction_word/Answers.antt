@@ -1,7 +1,6 @@
 -- `ack_write::frame::correction_word` meets its contract. Assumes nothing.
 use mir.Facts.{to_z-of_z}
 use Rattle.ack_write.proofs.FrameLaws.{word_nack, word_ack}
-use borrow.Author.Rules.{rules}
 use Rattle.ack_write.proofs.frame.correction_word.Goals as goal
 
 pub returns-then-nack : goal.returns-then-nack

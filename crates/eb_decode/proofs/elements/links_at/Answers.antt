@@ -1,9 +1,5 @@
 -- `eb_decode::elements::links_at` meets its contract. Assumes nothing.
-use Prim.Native.Nat.{◌-◌, ◌≤◌}
-use mathlib.Core.Path.{◌≡◌}
-use Rattle.octets_spec.proofs.CountedLaws.{filled, fill_begins, fill_turn}
-use Rattle.eb_record_spec.specs.Record.{blank_link}
-use Rattle.eb_read_spec.specs.Decode.{link_at}
+use Rattle.octets_spec.proofs.CountedLaws.{fill_begins, fill_turn}
 use Rattle.eb_decode.proofs.ElementLaws.{elements}
 use borrow.Author.Rules.{rules}
 use Rattle.eb_decode.proofs.elements.links_at.Goals as goal

@@ -1,8 +1,6 @@
 -- `eb_decode::elements::network_within` meets its contract. Assumes nothing.
-use Prim.Native.Nat.{◌+◌, ◌-◌, ◌≤◌}
-use mathlib.Core.Path.{◌≡◌, refl}
-use lib.ListN.{get_or}
-use Rattle.octets_spec.proofs.CountedLaws.{filled, fill_turn}
+use mathlib.Core.Path.{refl}
+use Rattle.octets_spec.proofs.CountedLaws.{fill_turn}
 use Rattle.eb_decode.proofs.FixedLaws.{fixing}
 use Rattle.eb_decode.proofs.ElementLaws.{elements}
 use borrow.Author.Rules.{rules}

@@ -1,11 +1,8 @@
 -- `eb_decode::elements::network_within` meets its contract. Assumes nothing.
 use Prim.Native.Nat.{◌+◌, ◌-◌, ◌≤◌}
-use mathlib.Core.Path.{◌≡◌, refl}
+use mathlib.Core.Path.{◌≡◌}
 use lib.ListN.{get_or}
-use Rattle.octets_spec.proofs.CountedLaws.{filled, fill_turn}
-use Rattle.eb_decode.proofs.FixedLaws.{fixing}
-use Rattle.eb_decode.proofs.ElementLaws.{elements}
-use borrow.Author.Rules.{rules}
+use Rattle.octets_spec.proofs.CountedLaws.{filled}
 use Rattle.eb_decode.proofs.elements.network_within.Given as goal
 
 abbrev pub invariant-loop-i : goal.invariant-loop-i

@@ -1,8 +1,4 @@
 -- `eb_decode::elements::timings_within` meets its contract. Assumes nothing.
-use Prim.Native.Nat.{◌+◌, ◌-◌, ◌≤◌}
-use mathlib.Core.Path.{◌≡◌}
-use Rattle.octets_spec.proofs.CountedLaws.{filled}
-use Rattle.eb_read_spec.specs.Decode.{timing_at}
 use Rattle.eb_decode.proofs.FixedLaws.{fixing}
 use Rattle.eb_decode.proofs.ElementLaws.{elements}
 use borrow.Author.Rules.{rules}

@@ -3,9 +3,6 @@ use Prim.Native.Nat.{◌+◌, ◌-◌, ◌≤◌}
 use mathlib.Core.Path.{◌≡◌}
 use Rattle.octets_spec.proofs.CountedLaws.{filled}
 use Rattle.eb_read_spec.specs.Decode.{timing_at}
-use Rattle.eb_decode.proofs.FixedLaws.{fixing}
-use Rattle.eb_decode.proofs.ElementLaws.{elements}
-use borrow.Author.Rules.{rules}
 use Rattle.eb_decode.proofs.elements.timings_within.Given as goal
 
 abbrev pub invariant-loop-k : goal.invariant-loop-k

@@ -1,7 +1,4 @@
 -- `ie_verdict::slotframe_fault::timeslots_fit` meets its contract. Assumes nothing.
-use Prim.Native.Nat.{◌+◌, ◌*◌, ◌≤◌}
-use mathlib.Core.Path.{◌≡◌}
-use Rattle.ie_verdict_spec.specs.Verdict.{timeslots_fit}
 use Rattle.ie_verdict_spec.proofs.VerdictLaws.{verdicts}
 use borrow.Author.Rules.{rules}
 use Rattle.ie_verdict.proofs.slotframe_fault.timeslots_fit.Goals as goal

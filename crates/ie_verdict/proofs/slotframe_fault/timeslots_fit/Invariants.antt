@@ -2,8 +2,6 @@
 use Prim.Native.Nat.{◌+◌, ◌*◌, ◌≤◌}
 use mathlib.Core.Path.{◌≡◌}
 use Rattle.ie_verdict_spec.specs.Verdict.{timeslots_fit}
-use Rattle.ie_verdict_spec.proofs.VerdictLaws.{verdicts}
-use borrow.Author.Rules.{rules}
 use Rattle.ie_verdict.proofs.slotframe_fault.timeslots_fit.Given as goal
 
 abbrev pub invariant-loop-left : goal.invariant-loop-left

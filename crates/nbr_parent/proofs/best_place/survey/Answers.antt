@@ -1,10 +1,5 @@
 -- `nbr_parent::best_place::survey` meets its contract. The invariant: the lowest offer so far and of what is left is that of the whole, and the held parent was found or stands in what is left. Assumes nothing.
-use Prim.Native.Nat.{◌-◌, ◌≤◌}
-use mathlib.Core.Path.{◌≡◌}
-use lib.ListN.{length, drop}
-use Rattle.nbr_table_spec.specs.Places.{best}
-use Rattle.nbr_table_spec.specs.Offers.{lowest, offer_of}
-use Rattle.nbr_table_spec.proofs.OfferLaws.{Seeking, surveyWays, target}
+use Rattle.nbr_table_spec.proofs.OfferLaws.{surveyWays}
 use borrow.Author.Rules.{rules}
 use Rattle.nbr_parent.proofs.best_place.survey.Goals as goal
 

@@ -4,8 +4,7 @@ use mathlib.Core.Path.{◌≡◌}
 use lib.ListN.{length, drop}
 use Rattle.nbr_table_spec.specs.Places.{best}
 use Rattle.nbr_table_spec.specs.Offers.{lowest, offer_of}
-use Rattle.nbr_table_spec.proofs.OfferLaws.{Seeking, surveyWays, target}
-use borrow.Author.Rules.{rules}
+use Rattle.nbr_table_spec.proofs.OfferLaws.{Seeking, target}
 use Rattle.nbr_parent.proofs.best_place.survey.Given as goal
 
 abbrev pub invariant-loop-i : goal.invariant-loop-i

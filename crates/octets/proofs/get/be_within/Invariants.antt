@@ -1,8 +1,7 @@
 -- `octets::get::be_within` meets its contract. Assumes nothing.
 use Prim.Native.Nat.{◌-◌, ◌≤◌}
-use borrow.Author.Rules.{rules}
 use Rattle.octets_spec.specs.Number.{be_at}
-use Rattle.octets_spec.proofs.NumberLaws.{Read, be_begins, be_turn, be_times, be_plus, be_ends}
+use Rattle.octets_spec.proofs.NumberLaws.{Read}
 use Rattle.octets.proofs.get.be_within.Given as goal
 
 abbrev pub invariant-loop-i : goal.invariant-loop-i

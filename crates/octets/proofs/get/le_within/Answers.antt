@@ -1,8 +1,6 @@
 -- `octets::get::le_within` meets its contract. Assumes nothing.
-use Prim.Native.Nat.{◌+◌, ◌-◌, ◌≤◌}
 use borrow.Author.Rules.{rules}
-use Rattle.octets_spec.specs.Number.{le_at}
-use Rattle.octets_spec.proofs.NumberLaws.{Read, le_begins, le_turn, le_times, le_plus, le_ends}
+use Rattle.octets_spec.proofs.NumberLaws.{le_begins, le_turn, le_times, le_plus, le_ends}
 use Rattle.octets.proofs.get.le_within.Goals as goal
 
 pub loop-left-init : goal.loop-left-init

@@ -1,10 +1,6 @@
 -- `octets::put::put_be` meets its contract. Assumes nothing.
-use Prim.Native.Nat.{◌+◌, ◌-◌, ◌/◌, ◌^◌, ◌≤◌}
-use mathlib.Core.Path.{◌≡◌}
 use mathlib.Core.List.{[]}
-use lib.ListN.{length}
 use borrow.Author.Rules.{rules}
-use Rattle.octets_spec.specs.Number.{be_bytes, stored}
 use Rattle.octets_spec.proofs.PutLaws.{stored_out, be_start, be_start_rest, be_next, be_next_rest, be_end, be_reads}
 use Rattle.octets.proofs.put.put_be.Goals as goal
 

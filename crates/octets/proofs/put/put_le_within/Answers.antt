@@ -1,8 +1,5 @@
 -- `octets::put::put_le_within` meets its contract. Assumes nothing.
-use Prim.Native.Nat.{◌+◌, ◌-◌, ◌≤◌}
-use mathlib.Core.Path.{◌≡◌, refl}
-use lib.ListN.{length}
-use Rattle.octets_spec.specs.Number.{le_bytes, stored}
+use mathlib.Core.Path.{refl}
 use Rattle.octets_spec.proofs.PutLaws.{le_start, le_next, le_end}
 use borrow.Author.Rules.{rules}
 use Rattle.octets.proofs.put.put_le_within.Goals as goal
