@@ -3,7 +3,8 @@
  * keeps the table of neighbours from which it chooses its parent (6TiSCH minimal configuration, RFC 8180, over IEEE
  * 802.15.4-2015).
  *
- * Link with libtesolvagna.a: x86-64 only, with the System V calling convention.
+ * Link with libtesolvagna.a: x86-64 only, from the processors of the level x86-64-v2 on, with the System V calling
+ * convention.
  *
  * Every function answers on every input. Records, tables and answers are structs that go by value: the library
  * allocates nothing and keeps nothing. Only these are lent to it: received bytes, a list of links and a log, which it

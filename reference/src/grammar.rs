@@ -14,26 +14,26 @@ use crate::random::Random;
 pub const CONSTRUCTORS: [&str; 25] = [
     "numbered",
     "suppressed",
-    "short-address",
-    "extended-address",
-    "fixed-fields",
-    "header-end",
-    "header-element",
-    "short-id",
-    "long-id",
-    "group-end",
-    "sub-element",
+    "short_address",
+    "extended_address",
+    "fixed_fields",
+    "header_end",
+    "header_element",
+    "short_id",
+    "long_id",
+    "group_end",
+    "sub_element",
     "mlme",
-    "ietf-element",
-    "other-group",
-    "bytes-end",
-    "payload-end",
-    "payload-element",
-    "id-alone",
-    "timed-25",
-    "timed-27",
-    "no-links",
-    "one-link",
+    "ietf_element",
+    "other_group",
+    "bytes_end",
+    "payload_end",
+    "payload_element",
+    "id_alone",
+    "timed_25",
+    "timed_27",
+    "no_links",
+    "one_link",
     "slotframe",
     "absent",
     "joining",
@@ -101,19 +101,19 @@ impl Maker<'_> {
     fn frame(&mut self, beacon: &Beacon) -> Vec<u8> {
         let mut frame = self.fixed_fields(beacon);
         for _ in 0..self.unknown() {
-            self.by("header-element");
+            self.by("header_element");
             let id = self.other_than(0xFF, &[HEADER_TERMINATION_1, HEADER_TERMINATION_2]);
             let content = self.content();
             frame.extend(described(7, id, false, &content));
         }
-        self.by("header-end");
+        self.by("header_end");
         frame.extend(described(7, HEADER_TERMINATION_1, false, &[]));
         frame.extend(self.payload(beacon));
         frame
     }
 
     fn fixed_fields(&mut self, beacon: &Beacon) -> Vec<u8> {
-        self.by("fixed-fields");
+        self.by("fixed_fields");
         let ignored = self.random.number() as u16 & (1 << 4 | 1 << 5 | 1 << 7);
         let suppressed = u16::from(beacon.sequence.is_none());
         let mode = match beacon.source {
@@ -133,11 +133,11 @@ impl Maker<'_> {
         fields.extend([0xFF, 0xFF]);
         match beacon.source {
             Address::Short(number) => {
-                self.by("short-address");
+                self.by("short_address");
                 fields.extend(number.to_le_bytes());
             }
             Address::Extended(number) => {
-                self.by("extended-address");
+                self.by("extended_address");
                 fields.extend(number.to_le_bytes());
             }
         }
@@ -150,19 +150,19 @@ impl Maker<'_> {
         match &beacon.joining {
             Some(joining) => {
                 self.by("joining");
-                self.by("ietf-element");
+                self.by("ietf_element");
                 elements.push((IETF, self.joining(joining)));
             }
             None => self.by("absent"),
         }
         for _ in 0..self.unknown() {
             if self.random.chance(50) {
-                self.by("ietf-element");
+                self.by("ietf_element");
                 let mut content = vec![self.other_than(0xFF, &[u16::from(JOINING)]) as u8];
                 content.extend(self.content());
                 elements.push((IETF, content));
             } else {
-                self.by("other-group");
+                self.by("other_group");
                 let group = self.other_than(15, &[MLME, IETF, PAYLOAD_TERMINATION]);
                 elements.push((group, self.content()));
             }
@@ -170,13 +170,13 @@ impl Maker<'_> {
         shuffle(self.random, &mut elements);
         let mut list = Vec::new();
         for (group, content) in elements {
-            self.by("payload-element");
+            self.by("payload_element");
             list.extend(described(11, group, true, &content));
         }
         if self.random.chance(50) {
-            self.by("bytes-end");
+            self.by("bytes_end");
         } else {
-            self.by("payload-end");
+            self.by("payload_end");
             list.extend(described(11, PAYLOAD_TERMINATION, true, &[]));
             list.extend(self.content());
         }
@@ -213,24 +213,24 @@ impl Maker<'_> {
         }
         for _ in 0..count {
             self.by("mlme");
-            self.by("group-end");
+            self.by("group_end");
         }
         groups
     }
 
     fn sub_element(&mut self, id: u16, long: bool, content: &[u8]) -> Vec<u8> {
-        self.by("sub-element");
-        self.by(if long { "long-id" } else { "short-id" });
+        self.by("sub_element");
+        self.by(if long { "long_id" } else { "short_id" });
         described(if long { 11 } else { 8 }, id, long, content)
     }
 
     fn timeslot(&mut self, beacon: &Beacon) -> Vec<u8> {
         let mut content = vec![beacon.template];
         match beacon.timings {
-            None => self.by("id-alone"),
+            None => self.by("id_alone"),
             Some(timings) => {
                 let wide = timings[10..].iter().any(|&timing| timing > 0xFFFF) || self.random.chance(50);
-                self.by(if wide { "timed-27" } else { "timed-25" });
+                self.by(if wide { "timed_27" } else { "timed_25" });
                 for (place, timing) in timings.iter().enumerate() {
                     let width = if wide && place >= 10 { 3 } else { 2 };
                     content.extend(&timing.to_le_bytes()[..width]);
@@ -246,12 +246,12 @@ impl Maker<'_> {
         content.extend(beacon.size.to_le_bytes());
         content.push(beacon.count as u8);
         for link in &beacon.links[..beacon.count] {
-            self.by("one-link");
+            self.by("one_link");
             content.extend(link.timeslot.to_le_bytes());
             content.extend(link.offset.to_le_bytes());
             content.push(link.options);
         }
-        self.by("no-links");
+        self.by("no_links");
         self.sub_element(SHORT_SLOTFRAME, false, &content)
     }
 

@@ -36,11 +36,11 @@ fn stem(path: &Path) -> String {
     path.file_stem().and_then(|name| name.to_str()).expect("a name in UTF-8").to_string()
 }
 
-/// The crates that are listed.
+/// The crates that are listed. Behind a crate's name a word may say what is made of it.
 fn crates() -> Vec<String> {
     let text = document("crates.txt");
     let names = text.lines().filter(|line| !line.starts_with('#')).filter_map(|line| line.split_once(':'));
-    names.map(|(name, _)| name.to_string()).collect()
+    names.map(|(name, _)| name.split(' ').next().expect("a split has a first part").to_string()).collect()
 }
 
 /// Each listed crate with the files of one of its folders.
@@ -89,6 +89,24 @@ impl Function {
     }
 }
 
+/// A function's name, from a text that begins with it.
+fn name_of(text: &str) -> &str {
+    text.split(['(', '<']).next().expect("a split has a first part")
+}
+
+/// Where a function's body begins, in a text that begins with its name: at the bracket that ends the first line, or a line that is not indented.
+fn body_at(text: &str) -> Option<usize> {
+    let mut start = 0;
+    for line in text.split('\n') {
+        let ends = line.strip_suffix("{}").or(line.strip_suffix('{'));
+        if let Some(before) = ends.filter(|_| start == 0 || !line.starts_with(' ')) {
+            return Some(start + before.len());
+        }
+        start += line.len() + 1;
+    }
+    None
+}
+
 /// Every function of every crate; a program's own are none.
 fn functions() -> Vec<Function> {
     let mut found = Vec::new();
@@ -102,9 +120,10 @@ fn functions() -> Vec<Function> {
                 continue;
             }
             let rest = &text[at + "fn ".len()..];
-            let name = rest.split('(').next().expect("a split has a first part");
-            let body = rest.find("\n{").unwrap_or_else(|| panic!("{of}::{name} has no body"));
-            let end = body + rest[body..].find("\n}").or(rest[body..].find("{}")).expect("a body ends");
+            let name = name_of(rest);
+            let body = body_at(rest).unwrap_or_else(|| panic!("{of}::{name} has no body"));
+            let is_empty = rest[body..].starts_with("{}");
+            let end = body + if is_empty { 0 } else { rest[body..].find("\n}").expect("a body ends") };
             found.push(Function {
                 of: of.clone(),
                 path: if module == "lib" { name.to_string() } else { format!("{module}::{name}") },
@@ -270,8 +289,8 @@ fn wrong_programs_name_their_function() {
 /// The function whose signature or contract stands at this position of a file, if one does.
 fn contract_at(code: &str, at: usize) -> Option<&str> {
     let start = code[..at].rfind("fn ")? + "fn ".len();
-    let end = start + code[start..].find("\n{")?;
-    (at < end).then(|| code[start..end].split('(').next().unwrap_or_default())
+    let end = start + body_at(&code[start..])?;
+    (at < end).then(|| name_of(&code[start..end]))
 }
 
 /// Whether a crate calls a function of its own.
@@ -411,7 +430,10 @@ fn claims_are_promised() {
     expect_none("claims that no function promises", wrong, claims.len(), 20);
 }
 
-/// Each file of definitions names sections of the rules, which are there.
+/// Definitions that state no rule: what the functions answer that read and print for a program.
+const STATE_NO_RULE: [&str; 1] = ["frame_program/Counts"];
+
+/// Each file of definitions names sections of the rules, which are there; one that states no rule names none.
 #[test]
 fn definitions_cite_the_rules() {
     let rules = document("docs/RULES.md");
@@ -425,7 +447,10 @@ fn definitions_cite_the_rules() {
         let cited: Vec<&str> = comment.split("docs/RULES.md, ").skip(1).collect();
         !cited.is_empty() && cited.iter().all(|rest| sections.iter().any(|section| rest.starts_with(section)))
     };
-    let wrong = definitions.iter().filter(|(_, path)| !cites(path)).map(|(of, path)| format!("{of}/{}", stem(path)));
+    let wrong = definitions.iter().filter_map(|(of, path)| {
+        let name = format!("{of}/{}", stem(path));
+        (cites(path) == STATE_NO_RULE.contains(&name.as_str())).then_some(name)
+    });
     expect_none("definitions that cite no section of the rules", wrong.collect(), definitions.len(), 40);
 }
 
