@@ -3,30 +3,14 @@
 ghost use Rattle.std.specs.Prelude.{◌≡◌, ◌≤◌, ◌<◌, ◌^◌, min, length, get_or};
 ghost use Rattle.octets_spec.specs.Number.{le_at, be_at};
 
-fn wide(value: u8) -> u64
-    ensures { (result ≡ value) × (result < 256) }
-{
-    value as u64
-}
-
 // The byte at an offset.
 pub fn byte(s: &[u8], at: usize) -> u64
     ensures { (result ≡ get_or s.now at 0) × (result < 256) }
 {
-    if at < s.len() {
-        return wide(s[at]);
+    match s.get(at) {
+        Some(byte) => u64::from(*byte),
+        None => 0,
     }
-    0
-}
-
-// A width, and 8 for any over 8.
-fn at_most_8(width: u8) -> u8
-    ensures { result ≡ min width 8 }
-{
-    if width < 8 {
-        return width;
-    }
-    8
 }
 
 // From the last byte back, which is the most significant.
@@ -35,10 +19,8 @@ fn le_within(s: &[u8], at: usize, width: u8) -> u64
     ensures { (result ≡ le_at width s.now at) × (result < 256 ^ width) }
 {
     let mut number: u64 = 0;
-    let mut left = width;
-    while 0 < left {
-        left -= 1;
-        number = number * 256 + byte(s, at + left as usize);
+    for i in (0..width).rev() {
+        number = number * 256 + byte(s, at + usize::from(i));
     }
     number
 }
@@ -50,7 +32,7 @@ pub fn le(s: &[u8], at: usize, width: u8) -> u64
     if s.len() <= at {
         return 0;
     }
-    le_within(s, at, at_most_8(width))
+    le_within(s, at, width.min(8))
 }
 
 // From the first byte on, which is the most significant.
@@ -59,10 +41,8 @@ fn be_within(s: &[u8], at: usize, width: u8) -> u64
     ensures { (result ≡ be_at width s.now at) × (result < 256 ^ width) }
 {
     let mut number: u64 = 0;
-    let mut i: u8 = 0;
-    while i < width {
-        number = number * 256 + byte(s, at + i as usize);
-        i += 1;
+    for i in 0..width {
+        number = number * 256 + byte(s, at + usize::from(i));
     }
     number
 }
@@ -74,5 +54,5 @@ pub fn be(s: &[u8], at: usize, width: u8) -> u64
     if s.len() <= at {
         return 0;
     }
-    be_within(s, at, at_most_8(width))
+    be_within(s, at, width.min(8))
 }

@@ -11,10 +11,7 @@ pub mod put;
 pub fn span(from: usize, to: usize) -> usize
     ensures { result ≡ to - from }
 {
-    if to < from {
-        return 0;
-    }
-    to - from
+    to.saturating_sub(from)
 }
 
 // One of two numbers, by whether a value is the wanted one. Both are at hand: compiled, it is no branch.

@@ -17,11 +17,9 @@ fn put_le_within(buffer: &mut [u8], at: usize, width: u8, number: u64)
     ensures { buffer.new ≡ stored buffer.old at (le_bytes width number) }
 {
     let mut rest = number;
-    let mut i: u8 = 0;
-    while i < width {
-        buffer[at + i as usize] = (rest % 256) as u8;
+    for i in 0..width {
+        buffer[at + usize::from(i)] = (rest % 256) as u8;
         rest = rest / 256;
-        i += 1;
     }
 }
 
@@ -51,10 +49,8 @@ pub fn put_be(buffer: &mut [u8], at: usize, width: u8, number: u64)
         return;
     }
     let mut high = number;
-    let mut left = width;
-    while 0 < left {
-        left -= 1;
-        put_byte(buffer, at + left as usize, (high % 256) as u8);
+    for i in (0..width).rev() {
+        put_byte(buffer, at + usize::from(i), (high % 256) as u8);
         high = high / 256;
     }
 }

@@ -1,5 +1,5 @@
 // The remainder of a 64-bit number, as of an ASN by the size of a slotframe.
-#![tactic(auto)]
+#![tactic(auto, using(octets_spec::proofs::ChoiceLaws::choices), unfolding(crate::specs::Remainder::remainder_of))]
 
 ghost use Rattle.std.specs.Prelude.{◌≡◌};
 ghost use Rattle.remainder.specs.Remainder.{remainder_of};
@@ -11,5 +11,5 @@ pub fn remainder(number: u64, divisor: u32) -> u32
     if divisor == 0 {
         return 0;
     }
-    (number % divisor as u64) as u32
+    (number % u64::from(divisor)) as u32
 }

@@ -1,95 +1,87 @@
-// Text, decimal and hex put into a lent buffer from an offset on, and parts of a line, which are made of these. Each function answers the
-// offset behind what it put. A text or a number that does not fit is not put at all: the buffer is then as it was, and the answer is the
-// offset itself.
+// Text, decimal and hex put into a line, and parts of a line, which are made of these. A text or a number that does not fit is not put at
+// all: the line is then as it was.
 #![tactic(auto)]
 
-ghost use Rattle.std.specs.Prelude.{◌≡◌, ◌+◌, ◌*◌, ◌≤◌, length};
+ghost use Rattle.std.specs.Prelude.{◌≡◌, ◌+◌, ◌*◌, length};
 ghost use Rattle.octets_spec.specs.Number.{stored};
 ghost use Rattle.text_put_spec.specs.Text.{decimal as text_decimal, hexadecimal, hex_octets, fitting};
-ghost use Rattle.text_put_spec.specs.Part.{field as part_field, refused_text, PartPut};
+ghost use Rattle.text_put_spec.specs.Part.{field as part_field, refused_text};
+ghost use Rattle.text_put.specs.Puts.{Puts};
 
-// Puts a text that fits, byte by byte.
-fn store(buffer: &mut [u8], at: usize, text: &[u8]) -> usize
-    requires { at + length text.now ≤ length buffer.old }
-    ensures { (result ≡ at + length text.now) × (buffer.new ≡ stored buffer.old at text.now) }
-{
-    let mut i = 0;
-    while i < text.len() {
-        buffer[at + i] = text[i];
-        i += 1;
+// A lent buffer that parts are put into one behind the other, and the offset behind the last of them.
+#[derive(Drop)]
+pub struct Line<'a> {
+    pub buffer: &'a mut [u8],
+    pub end: usize,
+}
+
+impl<'a> Line<'a> {
+    // Puts a text.
+    pub fn text(&mut self, text: &[u8])
+        ensures end { self.new.end ≡ self.old.end + length (fitting (length self.old.buffer.now) self.old.end text.now) }
+        ensures buffer { self.new.buffer.now ≡ stored self.old.buffer.now self.old.end (fitting (length self.old.buffer.now) self.old.end text.now) }
+        ensures part { Puts (length text.now) self.old text.now self.new }
+    {
+        let room = self.buffer.len();
+        if room < text.len() || room - text.len() < self.end {
+            return;
+        }
+        let end = self.end + text.len();
+        self.buffer[self.end..end].copy_from_slice(text);
+        self.end = end;
     }
-    at + i
-}
 
-// Puts a text.
-pub fn text(buffer: &mut [u8], at: usize, text: &[u8]) -> usize
-    ensures answer { result ≡ at + length (fitting (length buffer.old) at text.now) }
-    ensures buffer { buffer.new ≡ stored buffer.old at (fitting (length buffer.old) at text.now) }
-    ensures part { PartPut (length text.now) buffer.old at text.now buffer.new result }
-{
-    if buffer.len() < text.len() {
-        return at;
+    // Puts a number in decimal, without leading zeros.
+    pub fn decimal(&mut self, value: u64)
+        ensures end { self.new.end ≡ self.old.end + length (fitting (length self.old.buffer.now) self.old.end (text_decimal value)) }
+        ensures buffer { self.new.buffer.now ≡ stored self.old.buffer.now self.old.end (fitting (length self.old.buffer.now) self.old.end (text_decimal value)) }
+        ensures part { Puts 20 self.old (text_decimal value) self.new }
+    {
+        let mut digits = [0u8; 20];
+        let count = io::decimal(value, &mut digits);
+        self.text(&digits[..count]);
     }
-    if buffer.len() - text.len() < at {
-        return at;
+
+    // Puts a number in hex, in lower case, with zeros in front up to width digits; a width above 16 counts as 16.
+    pub fn hex(&mut self, value: u64, width: usize)
+        ensures end { self.new.end ≡ self.old.end + length (fitting (length self.old.buffer.now) self.old.end (hexadecimal width value)) }
+        ensures buffer { self.new.buffer.now ≡ stored self.old.buffer.now self.old.end (fitting (length self.old.buffer.now) self.old.end (hexadecimal width value)) }
+        ensures part { Puts 16 self.old (hexadecimal width value) self.new }
+    {
+        let mut space = [0u8; 16];
+        let count = io::hex(value, width, &mut space);
+        self.text(&space[..count]);
     }
-    store(buffer, at, text)
-}
 
-// Puts a number in decimal, without leading zeros.
-pub fn decimal(buffer: &mut [u8], at: usize, value: u64) -> usize
-    ensures answer { result ≡ at + length (fitting (length buffer.old) at (text_decimal value)) }
-    ensures buffer { buffer.new ≡ stored buffer.old at (fitting (length buffer.old) at (text_decimal value)) }
-    ensures part { PartPut 20 buffer.old at (text_decimal value) buffer.new result }
-{
-    let mut digits = [0u8; 20];
-    let count = io::decimal(value, &mut digits);
-    text(buffer, at, &digits[..count])
-}
-
-// Puts a number in hex, in lower case, with zeros in front up to width digits; a width above 16 counts as 16.
-pub fn hex(buffer: &mut [u8], at: usize, value: u64, width: usize) -> usize
-    ensures answer { result ≡ at + length (fitting (length buffer.old) at (hexadecimal width value)) }
-    ensures buffer { buffer.new ≡ stored buffer.old at (fitting (length buffer.old) at (hexadecimal width value)) }
-    ensures part { PartPut 16 buffer.old at (hexadecimal width value) buffer.new result }
-{
-    let mut space = [0u8; 16];
-    let count = io::hex(value, width, &mut space);
-    text(buffer, at, &space[..count])
-}
-
-// Puts a byte in hex, in two digits.
-fn octet(buffer: &mut [u8], at: usize, value: u8) -> usize
-    ensures { PartPut 2 buffer.old at (hexadecimal 2 value) buffer.new result }
-{
-    hex(buffer, at, value as u64, 2)
-}
-
-// Puts octets in hex, two digits each. Where not all have room, they may be put in part.
-pub fn octets(buffer: &mut [u8], at: usize, values: &[u8]) -> usize
-    ensures part { PartPut (2 * length values.now) buffer.old at (hex_octets values.now) buffer.new result }
-{
-    let mut next = at;
-    let mut i = 0;
-    while i < values.len() {
-        next = octet(buffer, next, values[i]);
-        i += 1;
+    // Puts a byte in hex, in two digits.
+    fn octet(&mut self, value: u8)
+        ensures { Puts 2 self.old (hexadecimal 2 value) self.new }
+    {
+        self.hex(u64::from(value), 2);
     }
-    next
-}
 
-// Puts a number behind its name. Where the longest number has no room, the name may be put alone.
-pub fn field(buffer: &mut [u8], at: usize, name: &[u8], value: u64) -> usize
-    ensures part { PartPut (length name.now + 20) buffer.old at (part_field name.now value) buffer.new result }
-{
-    let next = text(buffer, at, name);
-    decimal(buffer, next, value)
-}
+    // Puts octets in hex, two digits each. Where not all have room, they may be put in part.
+    pub fn octets(&mut self, values: &[u8])
+        ensures part { Puts (2 * length values.now) self.old (hex_octets values.now) self.new }
+    {
+        for value in values {
+            self.octet(*value);
+        }
+    }
 
-// Puts the line of a refusal. Where the longest number has no room, it may be put in part.
-pub fn refused(buffer: &mut [u8], at: usize, number: u8) -> usize
-    ensures part { PartPut 29 buffer.old at (refused_text number) buffer.new result }
-{
-    let next = field(buffer, at, b"refused ", number as u64);
-    text(buffer, next, b"\n")
+    // Puts a number behind its name. Where the longest number has no room, the name may be put alone.
+    pub fn field(&mut self, name: &[u8], value: u64)
+        ensures part { Puts (length name.now + 20) self.old (part_field name.now value) self.new }
+    {
+        self.text(name);
+        self.decimal(value);
+    }
+
+    // Puts the line of a refusal. Where the longest number has no room, it may be put in part.
+    pub fn refused(&mut self, number: u8)
+        ensures part { Puts 29 self.old (refused_text number) self.new }
+    {
+        self.field(b"refused ", u64::from(number));
+        self.text(b"\n");
+    }
 }

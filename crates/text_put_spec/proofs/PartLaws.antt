@@ -78,9 +78,9 @@ module _ (s t u : List ℕ) (at a b : ℕ) where
   unfolding field
   field_put name n first second = row (length name) 20 at a b s t u name (decimal n) first second
 
-  pub refused_put : (number : ℕ) → PartPut 28 s at (field refused_name number) t a → PartPut 1 t a newline u b → PartPut 29 s at (refused_text number) u b
+  pub refused_put : (number wide : ℕ) → wide ≡ number → PartPut 28 s at (field refused_name wide) t a → PartPut 1 t a newline u b → PartPut 29 s at (refused_text number) u b
   unfolding refused_text
-  refused_put number first second = row 28 1 at a b s t u _ newline first second
+  refused_put number wide same first second = rw (← same) (row 28 1 at a b s t u _ newline first second)
 
 -- ---- octets, one by one
 hex_append : (xs ys : List ℕ) → hex_octets (xs ++ ys) ≡ hex_octets xs ++ hex_octets ys

@@ -1,14 +1,14 @@
--- The laws of text in a buffer, in the shape in which the code meets them: a number's digits, a text put byte by byte, and a text that fits or does
--- not. Assumes nothing.
+-- The laws of text in a buffer, in the shape in which the code meets them: a number's digits, a text that is copied, and a text that fits or does not. Assumes nothing.
 use Prim.Native.Nat.{ℕ, zero, suc, ◌+◌, ◌-◌, ◌/◌, ◌%◌, ◌^◌, ◌<◌, ◌≤◌, min, max}
 use mathlib.Core.Path.{◌≡◌, refl, sym, ◌∙◌, ap}
-use mathlib.Core.List.{List, [], ◌∷◌}
+use mathlib.Core.List.{List, [], ◌∷◌, ◌++◌, append_assoc}
 use native.Mathlib.Nat.{pow-suc, one-le-pow, add-zero}
 use native.Mathlib.Omega.{arith}
 use lib.Dec.{lit<, lit≤}
-use lib.ListN.{length, get_or, set, take, drop, length-append, drop_of_length-le}
+use lib.ListN.{length, take, drop, length-append}
+use lib.Seq.{sets, sets-eq, drop-drop}
+use borrow.Rule.Slice.PartMut.{put_mid}
 use Rattle.octets_spec.specs.Number.{stored}
-use Rattle.octets_spec.proofs.PutLaws.{put_next}
 use Rattle.octets_spec.proofs.ChoiceLaws.{if_lt_lem, if_ge, by_lt}
 use Rattle.io.specs.Digits.{hex_digit_ascii, last_digits, IsDigitCount}
 use Rattle.text_put_spec.specs.Text.{width_go, decimal, hexadecimal, fitting}
@@ -115,20 +115,14 @@ hex_is : (n k width : ℕ) → IsDigitCount 16 (min (max width 1) 16) n k → la
 unfolding hexadecimal
 hex_is n k width h = ap (λ (w : ℕ). last_digits 16 w n) (hex_width n k width h)
 
--- ---- a text put byte by byte: what is left gives what the whole gives
-module _ (buffer text : List ℕ) (at : ℕ) where
-  pub text_start : stored buffer (at + 0) (drop 0 text) ≡ stored buffer at text
-  text_start = rw (add-zero at)
-
-  pub text_next : (whole : List ℕ) (i d : ℕ) → i < length text → stored buffer (at + i) (drop i text) ≡ whole → stored (set buffer (at + i) (get_or text i d)) (at + (i + 1)) (drop (i + 1) text) ≡ whole
-  text_next whole i d = put_next buffer text whole (at + i) (at + (i + 1)) i d (omega arith)
-
-  pub text_behind : (i : ℕ) → i ≤ length text → length text ≤ i → at + i ≡ at + length text
-  text_behind i within over = let all : i ≡ length text = omega arith in rw all refl
-
-  pub text_end : (start : List ℕ) (i : ℕ) → length text ≤ i → stored buffer (at + i) (drop i text) ≡ stored start at text → buffer ≡ stored start at text
+-- ---- a text copied over the bytes from an offset on, where it has room
+module _ (s t text : List ℕ) (at : ℕ) (short : length text ≤ length s) (early : at ≤ length s - length text) (same : t ≡ text) where
+  pub copied : put_mid at (at + length text - at) s t ≡ stored s at text
   unfolding stored
-  text_end start i over left = rw (drop_of_length-le text over) at left
+  copied =
+      let size : at + length text - at ≡ length text = omega arith in
+      let whole : sets s at text ≡ take at s ++ text ++ drop (at + length text) s = sets-eq text s at (omega (arith, short, early)) in
+      rw (same, size, whole, append_assoc, drop-drop (length text) at s) refl
 
 -- ---- a text fits, or it does not
 module _ (room at : ℕ) (text : List ℕ) where
@@ -183,4 +177,4 @@ module _ (s d : List ℕ) (at k n width : ℕ) (e : take k d ≡ last_digits 16 
   pub hex_buffer : (t : List ℕ) → t ≡ stored s at (fitting (length s) at (take k d)) → t ≡ stored s at (fitting (length s) at (hexadecimal width n))
   hex_buffer t put = let same : take k d ≡ hexadecimal width n = e ∙ hex_is n k width h in rw same at put
 
-pub ruleset texts = (text_start, text_next, text_behind, text_end, long_answer, long_buffer, late_answer, late_buffer, all_answer, all_buffer, decimal_answer, decimal_buffer, hex_answer, hex_buffer)
+pub ruleset texts = (copied, long_answer, long_buffer, late_answer, late_buffer, all_answer, all_buffer, decimal_answer, decimal_buffer, hex_answer, hex_buffer)

@@ -8,4 +8,4 @@ pub returns-then-s-at : goal.returns-then-s-at
 returns-then-s-at c = (be_past _ _ _ (search rules), positive _)
 
 pub returns : goal.returns
-returns c = rw c.at_most_8.ensures at c.be_within.ensures
+returns c = rw c.min.ensures at c.be_within.ensures

@@ -4,13 +4,13 @@ use Rattle.octets_spec.proofs.NumberLaws.{be_begins, be_turn, be_times, be_plus,
 use Rattle.octets.proofs.get.be_within.Goals as goal
 
 pub loop-i-init : goal.loop-i-init
-loop-i-init c = search (rules, be_begins, be_turn, be_times, be_plus, be_ends)
+loop-i-init c = search (rules, be_begins)
 
 pub loop-i-preserved : goal.loop-i-preserved
-loop-i-preserved c = search (rules, be_begins, be_turn, be_times, be_plus, be_ends)
+loop-i-preserved c = be_turn _ _ _ _ c.loop-i.invariant _ (rw c.from.ensures at c.byte.ensures.0) c.byte.ensures.1
 
 pub returns : goal.returns
-returns c = be_ends _ _ _ _ c.loop-i.invariant.1 _ c.loop-i.invariant.0 (search rules)
+returns c = search (rules, be_ends)
 
 pub overflow_mul-number : goal.overflow_mul-number
 overflow_mul-number c = search (rules, be_times)

@@ -1,11 +1,8 @@
--- `octets::get::le_within` meets its contract. Assumes nothing.
-use Prim.Native.Nat.{◌+◌, ◌-◌, ◌≤◌}
+-- The loop of `octets::get::le_within`, from the last byte back: what was read so far. Assumes nothing.
+use Rattle.std.proofs.Common.{◌+◌, ◌-◌}
 use Rattle.octets_spec.specs.Number.{le_at}
 use Rattle.octets_spec.proofs.NumberLaws.{Read}
 use Rattle.octets.proofs.get.le_within.Given as goal
 
-abbrev pub invariant-loop-left : goal.invariant-loop-left
-invariant-loop-left l = (l.left ≤ l.width) × Read (le_at (l.width - l.left) l.s (l.at + l.left)) (l.width - l.left) l.number
-
-abbrev pub decreases-loop-left : goal.decreases-loop-left
-decreases-loop-left l = l.left
+abbrev pub invariant-loop-i : goal.invariant-loop-i
+invariant-loop-i l = Read (le_at (l.width - l.i) l.s (l.at + l.i)) (l.width - l.i) l.number

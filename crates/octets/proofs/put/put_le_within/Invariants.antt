@@ -7,6 +7,3 @@ use Rattle.octets.proofs.put.put_le_within.Given as goal
 
 abbrev pub invariant-loop-i : goal.invariant-loop-i
 invariant-loop-i l = (l.i ≤ l.width) × (length l.buffer ≡ length l.initial.buffer) × (stored l.buffer (l.at + l.i) (le_bytes (l.width - l.i) l.rest) ≡ stored l.initial.buffer l.at (le_bytes l.width l.number))
-
-abbrev pub decreases-loop-i : goal.decreases-loop-i
-decreases-loop-i l = l.width - l.i

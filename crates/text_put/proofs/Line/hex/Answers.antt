@@ -1,8 +1,8 @@
--- `text_put::decimal` meets its contract. Assumes nothing.
+-- `text_put::Line::hex` meets its contract. Assumes nothing.
 use Rattle.text_put_spec.proofs.PartLaws.{parts}
 use Rattle.text_put_spec.proofs.TextLaws.{texts}
 use borrow.Author.Rules.{rules}
-use Rattle.text_put.proofs.decimal.Goals as goal
+use Rattle.text_put.proofs.Line.hex.Goals as goal
 
 pub returns : goal.returns
 returns c = search (rules, texts, parts)

@@ -1,8 +1,8 @@
--- `text_put::hex` meets its contract. Assumes nothing.
-use borrow.Author.Rules.{rules}
+-- `text_put::Line::field` meets its contract. Assumes nothing.
 use Rattle.text_put_spec.proofs.PartLaws.{parts}
 use Rattle.text_put_spec.proofs.TextLaws.{texts}
-use Rattle.text_put.proofs.hex.Goals as goal
+use borrow.Author.Rules.{rules}
+use Rattle.text_put.proofs.Line.field.Goals as goal
 
 pub returns : goal.returns
 returns c = search (rules, texts, parts)

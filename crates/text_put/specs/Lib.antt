@@ -1,0 +1,2 @@
+-- What the contracts of lines cite. Assumes nothing.
+pub mod Puts
