@@ -1,12 +1,11 @@
--- The laws of the steps, in the shape in which the code meets them: of each list the same three, with the descriptor that was read as
--- a variable. Assumes nothing.
+-- The laws of the steps: of each list the same two, at its end, and with the descriptor that was read as a variable. Assumes nothing.
 use Prim.Native.Nat.{ℕ, ◌+◌, ◌-◌, ◌<◌, ◌≤◌}
 use native.Mathlib.Omega.{arith}
 use mathlib.Core.Path.{◌≡◌, refl}
 use mathlib.Core.List.{List}
 use Rattle.octets_spec.specs.Choice.{if_lt}
 use Rattle.octets_spec.specs.Number.{le_at}
-use Rattle.octets_spec.proofs.ChoiceLaws.{if_lt_lem, if_ge}
+use Rattle.octets_spec.proofs.ChoiceLaws.{if_lt_lem, if_ge, by_lt}
 use Rattle.ie_step_spec.specs.Header.{header_word, header_at}
 use Rattle.ie_step_spec.specs.Payload.{outer_word, outer_at, outer_within, inner_word, inner_at}
 use Rattle.ie_step_spec.specs.declared.HeaderStep.{HeaderStep}
@@ -16,41 +15,35 @@ use Rattle.ie_step_spec.specs.declared.OuterStep.TheVariants as outer
 use Rattle.ie_step_spec.specs.declared.InnerStep.{InnerStep}
 use Rattle.ie_step_spec.specs.declared.InnerStep.TheVariants as inner
 
--- a step of any list: at the end, with one byte left, and at a descriptor
+-- a step of any list: at the end, and at a descriptor
 module _ {A : Type 0} (at end : ℕ) (stop cut there : A) where
   at_end : end ≤ at → stop ≡ if_lt at end (if_lt (end - at) 2 cut there) stop
   at_end h = if_ge _ _ at end h refl
 
-  one_left : at < end → end - at < 2 → cut ≡ if_lt at end (if_lt (end - at) 2 cut there) stop
-  one_left h k = if_lt_lem _ _ at end h (if_lt_lem _ _ (end - at) 2 k refl)
-
   two_left : (r : A) → at < end → 2 ≤ end - at → r ≡ there → r ≡ if_lt at end (if_lt (end - at) 2 cut there) stop
   two_left r h k e = if_lt_lem _ _ at end h (if_ge _ _ (end - at) 2 k e)
+
+  -- what is known of it in each of three cases gives what it is, and what holds of it
+  pub step_is : (P : A → Type 0) (r : A) → P stop → P cut → (end ≤ at → r ≡ stop) → (at < end → end - at < 2 → r ≡ cut) → (at + 2 ≤ end → (r ≡ there) × P r) → (r ≡ if_lt at end (if_lt (end - at) 2 cut there) stop) × P r
+  step_is P r of_stop of_cut ends one_left read =
+      by_lt at end
+      (λ some. by_lt (end - at) 2
+      (λ one. (if_lt_lem _ _ at end some (if_lt_lem _ _ (end - at) 2 one (one_left some one)), rw (one_left some one) of_cut))
+      (λ two. let said = read (omega arith) in (two_left r some two said.0, said.1)))
+      (λ none. (if_ge _ _ at end none (ends none), rw (ends none) of_stop))
 
 module _ (s : List ℕ) (at end : ℕ) where
   pub header_end : end ≤ at → header.End ≡ header_at s at end
   unfolding header_at
   header_end = at_end at end header.End _ _
 
-  pub header_cut : at < end → end - at < 2 → header.Fault 2 ≡ header_at s at end
-  unfolding header_at
-  header_cut = one_left at end _ _ _
-
   pub outer_end : end ≤ at → outer.End ≡ outer_at s at end
   unfolding outer_at
   outer_end = at_end at end outer.End _ _
 
-  pub outer_cut : at < end → end - at < 2 → outer.Fault 2 ≡ outer_at s at end
-  unfolding outer_at
-  outer_cut = one_left at end _ _ _
-
   pub inner_end : end ≤ at → inner.Back ≡ inner_at s at end
   unfolding inner_at
   inner_end = at_end at end inner.Back _ _
-
-  pub inner_cut : at < end → end - at < 2 → inner.Fault 2 ≡ inner_at s at end
-  unfolding inner_at
-  inner_cut = one_left at end _ _ _
 
   module _ (word : ℕ) (some : at < end) (two : 2 ≤ end - at) (read : word ≡ le_at 2 s at) where
     pub header_here : (r : HeaderStep) → r ≡ header_word at end word → r ≡ header_at s at end
@@ -71,4 +64,4 @@ widen outer.End from size end fits buffer within = tt
 widen (outer.Group b e) from size end fits buffer within = (within.0, within.1, omega arith)
 widen (outer.Joining b e) from size end fits buffer within = (within.0, within.1, omega arith)
 widen (outer.Skip e) from size end fits buffer within = (within.0, omega arith)
-widen (outer.Fault number) from size end fits buffer within = tt
+widen (outer.Fault refusal) from size end fits buffer within = tt

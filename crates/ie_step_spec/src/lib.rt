@@ -2,6 +2,9 @@
 // (specs/) and their laws; the crate `ie_step` reads them.
 #![tactic(auto)]
 
+use refusal::Refusal;
+
+// IDs, groups and subtypes are numbers of the frame, of any value; these are the ones that have a meaning here, and are matched as such.
 // The ID that ends the header list; payload elements follow.
 pub const HEADER_TERMINATION_1: u64 = 0x7E;
 // The ID that ends the header list; no payload elements follow.
@@ -24,7 +27,7 @@ pub enum HeaderStep {
     End,
     Payload(usize),
     Element(u64, usize, usize),
-    Fault(u8),
+    Fault(Refusal),
 }
 
 // What stands at an offset of the payload list: its end, an MLME group, joining information, something to be skipped, or a fault.
@@ -34,13 +37,14 @@ pub enum OuterStep {
     Group(usize, usize),
     Joining(usize, usize),
     Skip(usize),
-    Fault(u8),
+    Fault(Refusal),
 }
 
-// What stands at an offset of an MLME group: its end, a sub-element of this kind with these bytes, or a fault.
+// What stands at an offset of an MLME group: its end, a sub-element of this kind with these bytes, or a fault. A kind is a number: a frame may
+// have any, and the grammar (eb_grammar_spec/specs/Grammar.antt) names them by their numbers.
 #[derive(Clone, Copy)]
 pub enum InnerStep {
     Back,
     Part(u64, usize, usize),
-    Fault(u8),
+    Fault(Refusal),
 }

@@ -3,99 +3,109 @@
 #![tactic(auto)]
 
 ghost use Rattle.std.specs.Prelude.{◌≡◌, ◌<◌};
+ghost use Rattle.refusal.specs.Refusal.{number_in};
 ghost use Rattle.ie_verdict_spec.specs.Verdict.{once_only, sync_fault, timeslot_fault, hopping_fault, joining_fault, part_fault};
+
+use refusal::Refusal;
 
 mod slotframe_fault;
 
 // The P flag in the first byte of joining information.
 const PROXIED: u64 = 0x40;
 
-// 7 for an element of a kind that was taken before.
-fn twice(seen: usize) -> u8
-    ensures { result ≡ once_only seen }
+// An element of a kind that was taken before is one too many.
+#[tactic(auto, using(ie_verdict_spec::proofs::VerdictLaws::verdicts), unfolding(ie_verdict_spec::specs::Verdict::once_only))]
+fn once(seen: usize) -> Result<(), Refusal>
+    ensures { number_in result ≡ once_only seen }
 {
-    if seen == 0 {
-        return refusal::DONE;
-    }
-    refusal::MISSING_OR_TWICE
-}
-
-fn sync_fault(size: usize, seen: usize) -> u8
-    ensures { result ≡ sync_fault size seen }
-{
-    if size == 6 {
-        return twice(seen);
-    }
-    refusal::SHAPE
-}
-
-fn timeslot_fault(size: usize, seen: usize, id: u64) -> u8
-    ensures { result ≡ timeslot_fault size seen id }
-{
-    if (size != 1) & ((size != 25) & (size != 27)) {
-        return refusal::SHAPE;
-    }
     if seen != 0 {
-        return refusal::MISSING_OR_TWICE;
+        return Err(Refusal::MissingOrTwice);
     }
-    if (size == 1) & (id != 0) {
-        return refusal::OUT_OF_LIMITS;
-    }
-    refusal::DONE
+    Ok(())
 }
 
-fn hopping_fault(size: usize, seen: usize) -> u8
-    ensures { result ≡ hopping_fault size seen }
+#[tactic(auto, using(ie_verdict_spec::proofs::VerdictLaws::verdicts), unfolding(ie_verdict_spec::specs::Verdict::sync_fault))]
+fn sync_fault(size: usize, seen: usize) -> Result<(), Refusal>
+    ensures { number_in result ≡ sync_fault size seen }
+{
+    if size != 6 {
+        return Err(Refusal::Shape);
+    }
+    once(seen)
+}
+
+#[tactic(auto, using(ie_verdict_spec::proofs::VerdictLaws::verdicts), unfolding(ie_verdict_spec::specs::Verdict::timeslot_fault, ie_verdict_spec::specs::Verdict::once_only))]
+fn timeslot_fault(size: usize, seen: usize, id: u64) -> Result<(), Refusal>
+    ensures { number_in result ≡ timeslot_fault size seen id }
+{
+    if !matches!(size, 1 | 25 | 27) {
+        return Err(Refusal::Shape);
+    }
+    once(seen)?;
+    if size == 1 && id != 0 {
+        return Err(Refusal::OutOfLimits);
+    }
+    Ok(())
+}
+
+#[tactic(auto, using(ie_verdict_spec::proofs::VerdictLaws::verdicts), unfolding(ie_verdict_spec::specs::Verdict::hopping_fault, ie_verdict_spec::specs::Verdict::once_only))]
+fn hopping_fault(size: usize, seen: usize) -> Result<(), Refusal>
+    ensures { number_in result ≡ hopping_fault size seen }
 {
     if size == 0 {
-        return refusal::SHAPE;
+        return Err(Refusal::Shape);
     }
-    if seen != 0 {
-        return refusal::MISSING_OR_TWICE;
-    }
+    once(seen)?;
     if 1 < size {
-        return refusal::OUT_OF_LIMITS;
+        return Err(Refusal::OutOfLimits);
     }
-    refusal::DONE
+    Ok(())
 }
 
-fn joining_fault(size: usize, seen: usize, proxied: u64) -> u8
+#[tactic(auto, using(ie_verdict_spec::proofs::VerdictLaws::verdicts), unfolding(ie_verdict_spec::specs::Verdict::joining_fault))]
+fn joining_fault(size: usize, seen: usize, proxied: u64) -> Result<(), Refusal>
     requires { proxied < 2 }
-    ensures { result ≡ joining_fault size seen proxied }
+    ensures { number_in result ≡ joining_fault size seen proxied }
 {
     let fixed = 4 + 8 * proxied as usize;
-    if size < 4 {
-        return refusal::SHAPE;
+    if size < fixed || fixed + 16 < size {
+        return Err(Refusal::Shape);
     }
-    if size < fixed {
-        return refusal::SHAPE;
-    }
-    if fixed + 16 < size {
-        return refusal::SHAPE;
-    }
-    twice(seen)
+    once(seen)
 }
 
-// The fault of an element of some kind that lies from an offset to another, and 0 if it has none; an unknown kind has none. Kinds
-// are those of `ie_verdict_spec`.
-pub fn part_fault(s: &[u8], kind: u64, from: usize, to: usize, seen: ie_verdict_spec::Seen) -> u8
-    ensures { result ≡ part_fault s.now kind from to seen }
+// Whether an element of some kind that lies from an offset to another is as its kind has it; an unknown kind always is. Kinds are those of
+// `ie_verdict_spec`, and stay numbers: frames have them of any value, and no kind is kept but here, where each of the five has its row.
+#[tactic(auto, using(ie_verdict_spec::proofs::VerdictLaws::verdicts), unfolding(ie_verdict_spec::specs::Verdict::part_fault))]
+pub fn part_fault(
+    s: &[u8],
+    kind: u64,
+    from: usize,
+    to: usize,
+    seen: ie_verdict_spec::Seen,
+) -> Result<(), Refusal>
+    ensures { number_in result ≡ part_fault s.now kind from to seen }
 {
-    let size = octets::span(from, to);
-    if kind == ie_verdict_spec::SYNCHRONIZATION {
-        return sync_fault(size, seen.synchronization);
+    let size = to.saturating_sub(from);
+    match kind {
+        ie_verdict_spec::SYNCHRONIZATION => sync_fault(size, seen.synchronization),
+        ie_verdict_spec::TIMESLOT => timeslot_fault(
+            size,
+            seen.timeslot,
+            octets::get::byte(s, from),
+        ),
+        ie_verdict_spec::HOPPING => hopping_fault(size, seen.hopping),
+        ie_verdict_spec::SLOTFRAME => slotframe_fault::slotframe_fault(
+            s,
+            from,
+            size,
+            seen.slotframe,
+        ),
+        ie_verdict_spec::JOINING => joining_fault(
+            size,
+            seen.joining,
+            octets::get::byte(s, from) / PROXIED % 2,
+        ),
+        _ => Ok(()),
     }
-    if kind == ie_verdict_spec::TIMESLOT {
-        return timeslot_fault(size, seen.timeslot, octets::get::byte(s, from));
-    }
-    if kind == ie_verdict_spec::HOPPING {
-        return hopping_fault(size, seen.hopping);
-    }
-    if kind == ie_verdict_spec::SLOTFRAME {
-        return crate::slotframe_fault::slotframe_fault(s, from, size, seen.slotframe);
-    }
-    if kind == ie_verdict_spec::JOINING {
-        return joining_fault(size, seen.joining, octets::get::byte(s, from) / PROXIED % 2);
-    }
-    refusal::DONE
 }

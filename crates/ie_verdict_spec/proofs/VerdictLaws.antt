@@ -1,16 +1,49 @@
 -- The laws of the verdicts, in the shape in which the code meets them. Assumes nothing.
-use Prim.Native.Nat.{ℕ, zero, suc, ◌+◌, ◌-◌, ◌*◌, ◌/◌, ◌%◌, ◌<◌, ◌≤◌}
+use Prim.Native.Nat.{ℕ, zero, suc, ◌+◌, ◌-◌, ◌*◌, ◌<◌, ◌≤◌}
 use mathlib.Core.Path.{◌≡◌, refl}
 use mathlib.Core.Bool.{Bool, true, false, ◌&&◌}
 use mathlib.Core.List.{List}
 use native.Mathlib.Omega.{arith}
-use borrow.Author.Tests.{lt-ltb, le-ltb}
+use borrow.Author.Tests.{lt-ltb, le-ltb, ne_eqb}
 use lib.Dec.{ltb}
 use lib.ListN.{get_or}
+use Rattle.octets_spec.specs.Choice.{if_eq}
 use Rattle.octets_spec.specs.Number.{le_at}
-use Rattle.octets_spec.proofs.ChoiceLaws.{if_lt_lem, if_ge, if_eq_lem, if_ne_lem, choices}
-use Rattle.ie_verdict_spec.specs.Verdict.{sync_fault, timeslot_fault, hopping_fault, slotframe_shape, slotframe_limits, slotframe_fault, joining_fault, timeslots_fit, slotframe_fault_at, part_fault}
-use Rattle.ie_verdict_spec.specs.declared.Seen.{Seen}
+use Rattle.octets_spec.proofs.ChoiceLaws.{if_lt_lem, if_ge, if_eq_lem, if_ne_lem, by_eq, choices}
+use Rattle.std.specs.Prelude.{Result, Ok, Err}
+use Rattle.refusal.specs.Refusal.{number_of, number_in}
+use Rattle.refusal.specs.declared.Refusal.{Refusal}
+use Rattle.refusal.specs.declared.Refusal.TheVariants.{FrameTooLong, Cut, WrongType, Secured, Addressing, Shape, MissingOrTwice, OutOfLimits, BufferTooShort, UnknownNeighbour, TableFull}
+use Rattle.ie_verdict_spec.specs.Verdict.{once_only, slotframe_shape, slotframe_fault, timeslots_fit, slotframe_fault_at}
+
+-- ---- an element of a kind that was taken before
+-- no refusal's number is that of a call that is done
+some_number : (refusal : Refusal) → number_of refusal ≡ 0 → ⊥
+some_number FrameTooLong e = omega arith
+some_number Cut e = omega arith
+some_number WrongType e = omega arith
+some_number Secured e = omega arith
+some_number Addressing e = omega arith
+some_number Shape e = omega arith
+some_number MissingOrTwice e = omega arith
+some_number OutOfLimits e = omega arith
+some_number BufferTooShort e = omega arith
+some_number UnknownNeighbour e = omega arith
+some_number TableFull e = omega arith
+
+module _ (seen : ℕ) (r : Result Unit Refusal) (is : number_in r ≡ once_only seen) where
+  pub once_passed : (done : Unit) → r ≡ Ok done → seen ≡ 0
+  unfolding once_only if_eq
+  once_passed done e = by_eq seen 0 (λ none. none) (λ some. let n : 0 ≡ 7 = rw (e, ne_eqb seen 0 some) at is in absurd (omega arith))
+
+  module _ (refusal : Refusal) (e : r ≡ Err refusal) where
+    pub once_refused : seen ≡ 0 → ⊥
+    unfolding once_only if_eq
+    once_refused none = some_number refusal (rw (e, none) at is)
+
+    pub once_number : number_of refusal ≡ 7
+    unfolding once_only if_eq
+    once_number = rw (e, ne_eqb seen 0 once_refused) at is
 
 -- ---- the loop over the timeslots: what is left gives what the whole gives
 module _ (s : List ℕ) (size : ℕ) where
@@ -19,80 +52,35 @@ module _ (s : List ℕ) (size : ℕ) where
   one_more offset zero some = absurd (omega arith)
   one_more offset (suc left) some = let e : suc left - 1 ≡ left = omega arith in rw e
 
-  module _ (offset left : ℕ) (whole : Bool) (so_far : timeslots_fit s offset left size ≡ whole) where
-    pub fit_turn : (t : ℕ) → 0 < left → t ≡ le_at 2 s offset → t < size → timeslots_fit s (offset + 5) (left - 1) size ≡ whole
-    fit_turn t some read below = let b : le_at 2 s offset < size = omega arith in rw (one_more offset left some, lt-ltb _ _ b) at so_far
+  module _ (at links : ℕ) where
+    pub fit_start : timeslots_fit s (at + 5 * 0) (links - 0) size ≡ timeslots_fit s at links size
+    fit_start = let e : at + 5 * 0 ≡ at = omega arith in let all : links - 0 ≡ links = omega arith in rw (e, all)
 
-    pub fit_not : (t : ℕ) → 0 < left → t ≡ le_at 2 s offset → size ≤ t → false ≡ whole
-    fit_not t some read over = let b : size ≤ le_at 2 s offset = omega arith in rw (one_more offset left some, le-ltb _ _ b) at so_far
+    module _ (link : ℕ) (whole : Bool) (so_far : timeslots_fit s (at + 5 * link) (links - link) size ≡ whole) where
+      pub fit_turn : (t : ℕ) → link < links → t ≡ le_at 2 s (at + 5 * link) → t < size → timeslots_fit s (at + 5 * (link + 1)) (links - (link + 1)) size ≡ whole
+      fit_turn t some read below =
+          let b : le_at 2 s (at + 5 * link) < size = omega arith in
+          let next : at + 5 * (link + 1) ≡ at + 5 * link + 5 = omega arith in
+          let left : links - (link + 1) ≡ links - link - 1 = omega arith in
+          rw (next, left) (rw (one_more (at + 5 * link) (links - link) (omega arith), lt-ltb _ _ b) at so_far)
 
-    pub fit_end : left ≤ 0 → true ≡ whole
-    unfolding timeslots_fit
-    fit_end none = let e : left ≡ 0 = omega arith in rw e at so_far
+      pub fit_not : (t : ℕ) → link < links → t ≡ le_at 2 s (at + 5 * link) → size ≤ t → false ≡ whole
+      fit_not t some read over = let b : size ≤ le_at 2 s (at + 5 * link) = omega arith in rw (one_more (at + 5 * link) (links - link) (omega arith), le-ltb _ _ b) at so_far
 
--- ---- the slotframe and link element
+      pub fit_end : links ≤ link → true ≡ whole
+      unfolding timeslots_fit
+      fit_end none = let e : links - link ≡ 0 = omega arith in rw e at so_far
+
+-- ---- the slotframe and link element: what its shape says comes first, and there the count before the length
 module _ (s : List ℕ) (from bytes seen : ℕ) where
   module _ (count links fault : ℕ) (c : count ≡ get_or s from 0) (l : links ≡ get_or s (from + 4) 0) (e : fault ≡ slotframe_shape bytes count links) where
     frame_shape : (fault ≡ 0 → ⊥) → fault ≡ slotframe_fault_at s from bytes seen
     unfolding slotframe_fault_at slotframe_fault
     frame_shape bad = rw (← c, ← l, ← e) (if_ne_lem _ _ fault 0 bad refl)
 
-  pub frame_short : bytes < 5 → 6 ≡ slotframe_fault_at s from bytes seen
-  unfolding slotframe_shape
-  frame_short h = frame_shape _ _ 6 refl refl (if_lt_lem _ _ bytes 5 h refl) (λ (z : 6 ≡ 0). omega arith)
-
   module _ (long : 5 ≤ bytes) (count : ℕ) (c : count ≡ get_or s from 0) where
     pub frame_count : (count ≡ 1 → ⊥) → 8 ≡ slotframe_fault_at s from bytes seen
     unfolding slotframe_shape
     frame_count bad = frame_shape count _ 8 c refl (if_ge _ _ bytes 5 long (if_ne_lem _ _ count 1 bad refl)) (λ (z : 8 ≡ 0). omega arith)
 
-    module _ (one : count ≡ 1) (links : ℕ) (l : links ≡ get_or s (from + 4) 0) where
-      pub frame_length_lem : (bytes ≡ 5 + 5 * links → ⊥) → 6 ≡ slotframe_fault_at s from bytes seen
-      unfolding slotframe_shape
-      frame_length_lem bad = frame_shape count links 6 c l (if_ge _ _ bytes 5 long (if_eq_lem _ _ count 1 one (if_ne_lem _ _ bytes _ bad refl))) (λ (z : 6 ≡ 0). omega arith)
-
-      module _ (exact : bytes ≡ 5 + 5 * links) where
-        shaped : 0 ≡ slotframe_shape bytes count links
-        unfolding slotframe_shape
-        shaped = if_ge _ _ bytes 5 long (if_eq_lem _ _ count 1 one (if_eq_lem _ _ bytes _ exact refl))
-
-        pub frame_twice : (seen ≡ 0 → ⊥) → 7 ≡ slotframe_fault_at s from bytes seen
-        unfolding slotframe_fault_at slotframe_fault
-        frame_twice again = rw (← c, ← l, ← shaped) (if_eq_lem _ _ 0 0 refl (if_ne_lem _ _ seen 0 again refl))
-
-        pub frame_within : (size r : ℕ) (below : Bool) → seen ≡ 0 → size ≡ le_at 2 s (from + 2) → below ≡ timeslots_fit s (from + 5) links size → r ≡ slotframe_limits size links below → r ≡ slotframe_fault_at s from bytes seen
-        unfolding slotframe_fault_at slotframe_fault
-        frame_within size r below once z b k = rw (← c, ← l, ← shaped, ← z, ← b) (if_eq_lem _ _ 0 0 refl (if_eq_lem _ _ seen 0 once k))
-
--- ---- an element by its kind
-module _ (s : List ℕ) (kind from to : ℕ) (seen : Seen) (bytes r : ℕ) (l : bytes ≡ to - from) where
-  pub part_sync : kind ≡ 26 → r ≡ sync_fault bytes seen.synchronization → r ≡ part_fault s kind from to seen
-  unfolding part_fault
-  part_sync k e = if_eq_lem _ _ kind 26 k (rw l at e)
-
-  module _ (no_sync : kind ≡ 26 → ⊥) where
-    pub part_timeslot : (id : ℕ) → kind ≡ 28 → id ≡ get_or s from 0 → r ≡ timeslot_fault bytes seen.timeslot id → r ≡ part_fault s kind from to seen
-    unfolding part_fault
-    part_timeslot id k i e = if_ne_lem _ _ kind 26 no_sync (if_eq_lem _ _ kind 28 k (rw (l, i) at e))
-
-    module _ (no_timeslot : kind ≡ 28 → ⊥) where
-      pub part_hopping : kind ≡ 137 → r ≡ hopping_fault bytes seen.hopping → r ≡ part_fault s kind from to seen
-      unfolding part_fault
-      part_hopping k e = if_ne_lem _ _ kind 26 no_sync (if_ne_lem _ _ kind 28 no_timeslot (if_eq_lem _ _ kind 137 k (rw l at e)))
-
-      module _ (no_hopping : kind ≡ 137 → ⊥) where
-        pub part_slotframe : kind ≡ 27 → r ≡ slotframe_fault_at s from bytes seen.slotframe → r ≡ part_fault s kind from to seen
-        unfolding part_fault
-        part_slotframe k e = if_ne_lem _ _ kind 26 no_sync (if_ne_lem _ _ kind 28 no_timeslot (if_ne_lem _ _ kind 137 no_hopping (if_eq_lem _ _ kind 27 k (rw l at e))))
-
-        module _ (no_slotframe : kind ≡ 27 → ⊥) where
-          pub part_joining : (first : ℕ) → kind ≡ 258 → first ≡ get_or s from 0 → r ≡ joining_fault bytes seen.joining (first / 64 % 2) → r ≡ part_fault s kind from to seen
-          unfolding part_fault
-          part_joining first k f e = if_ne_lem _ _ kind 26 no_sync (if_ne_lem _ _ kind 28 no_timeslot (if_ne_lem _ _ kind 137 no_hopping (if_ne_lem _ _ kind 27 no_slotframe (if_eq_lem _ _ kind 258 k (rw (l, f) at e)))))
-
-module _ (s : List ℕ) (kind from to : ℕ) (seen : Seen) where
-  pub part_unknown : (kind ≡ 26 → ⊥) → (kind ≡ 28 → ⊥) → (kind ≡ 137 → ⊥) → (kind ≡ 27 → ⊥) → (kind ≡ 258 → ⊥) → 0 ≡ part_fault s kind from to seen
-  unfolding part_fault
-  part_unknown a b c d e = if_ne_lem _ _ kind 26 a (if_ne_lem _ _ kind 28 b (if_ne_lem _ _ kind 137 c (if_ne_lem _ _ kind 27 d (if_ne_lem _ _ kind 258 e refl))))
-
-pub ruleset verdicts = (choices, fit_turn, fit_not, fit_end, frame_short, frame_count, frame_length_lem, frame_twice, frame_within, part_sync, part_timeslot, part_hopping, part_slotframe, part_joining, part_unknown)
+pub ruleset verdicts = (choices, once_passed, once_refused, once_number, fit_start, fit_turn, fit_not, fit_end)

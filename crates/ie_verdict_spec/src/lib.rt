@@ -13,7 +13,8 @@ pub const HOPPING: u64 = 0x80 + 0x9;
 // The kind of an element in an IETF group is 0x100 and its subtype: joining information.
 pub const JOINING: u64 = 0x100 + 2;
 
-// The offsets of the elements that were taken, each 0 if there was none.
+// The offsets of the elements that were taken, each 0 if there was none: those of the walk, as it has them, since `part_fault`
+// (specs/Verdict.antt) and `seen_of` (ie_walk_spec) say it so.
 #[derive(Clone, Copy)]
 pub struct Seen {
     pub synchronization: usize,

@@ -3,13 +3,16 @@
 // only where the group ends the list and nothing is left to read: so calls do not nest with the number of groups in a frame, and the
 // stack that a frame takes does not grow with it.
 ghost use Rattle.std.specs.Prelude.{◌≡◌, ◌+◌, ◌<◌, ◌≤◌, ◌^◌};
+ghost use Rattle.refusal.specs.Refusal.{number_of};
 ghost use Rattle.ie_walk_spec.specs.Walk.{blank_walk, seen_of, taken, stopped, skip_one, part_taken, OuterIs, GroupGives, payload_list};
 
 use ie_step_spec::{InnerStep, OuterStep};
 use ie_verdict_spec::Seen;
 use ie_walk_spec::{GroupEnd, Walk};
+use refusal::Refusal;
 
 // Which known elements were taken before.
+#[tactic(auto, unfolding(ie_walk_spec::specs::Walk::seen_of))]
 fn seen_of(walk: Walk) -> Seen
     ensures { result ≡ seen_of walk }
 {
@@ -23,6 +26,7 @@ fn seen_of(walk: Walk) -> Seen
 }
 
 // Counts an element that is skipped.
+#[tactic(auto, unfolding(ie_walk_spec::specs::Walk::skip_one))]
 fn skip_one(walk: Walk) -> Walk
     requires { walk.skipped + 1 < 2 ^ 64 }
     ensures { result ≡ skip_one walk }
@@ -34,70 +38,65 @@ fn skip_one(walk: Walk) -> Walk
 }
 
 // Stops at a fault, whose element starts at `at`.
-fn stop(walk: Walk, fault: u8, at: usize) -> Walk
-    ensures { result ≡ stopped walk fault at }
+#[tactic(auto, unfolding(ie_walk_spec::specs::Walk::stopped))]
+fn stop(walk: Walk, refusal: Refusal, at: usize) -> Walk
+    ensures { result ≡ stopped walk (number_of refusal) at }
 {
     Walk {
-        fault: fault as usize,
+        fault: usize::from(refusal.number()),
         faulty: at,
         ..walk
     }
 }
 
-// Notes an element without a fault; one of an unknown kind is skipped.
+// Notes an element without a fault; one of an unknown kind is skipped. Kinds stay numbers here too: a frame may have any.
+#[tactic(auto, using(octets_spec::proofs::ChoiceLaws::choices), unfolding(ie_walk_spec::specs::Walk::taken, ie_walk_spec::specs::Walk::skip_one, octets_spec::specs::Choice::if_eq))]
 fn take(walk: Walk, kind: u64, from: usize, to: usize) -> Walk
     requires { walk.skipped < to }
     ensures { result ≡ taken walk kind from to }
 {
-    if kind == ie_verdict_spec::SYNCHRONIZATION {
-        return Walk {
+    match kind {
+        ie_verdict_spec::SYNCHRONIZATION => Walk {
             synchronization: from,
             ..walk
-        };
-    }
-    if kind == ie_verdict_spec::TIMESLOT {
-        return Walk {
+        },
+        ie_verdict_spec::TIMESLOT => Walk {
             timeslot: from,
             timeslotend: to,
             ..walk
-        };
-    }
-    if kind == ie_verdict_spec::HOPPING {
-        return Walk {
+        },
+        ie_verdict_spec::HOPPING => Walk {
             hopping: from,
             ..walk
-        };
-    }
-    if kind == ie_verdict_spec::SLOTFRAME {
-        return Walk {
+        },
+        ie_verdict_spec::SLOTFRAME => Walk {
             slotframe: from,
             ..walk
-        };
-    }
-    if kind == ie_verdict_spec::JOINING {
-        return Walk {
+        },
+        ie_verdict_spec::JOINING => Walk {
             joining: from,
             joiningend: to,
             ..walk
-        };
+        },
+        _ => skip_one(walk),
     }
-    skip_one(walk)
 }
 
 // An element of some kind whose descriptor stands at `at`: it is noted, or the walk stops there.
+#[tactic(auto, using(octets_spec::proofs::ChoiceLaws::choices), unfolding(ie_walk_spec::specs::Walk::part_taken))]
 fn part(s: &[u8], walk: Walk, kind: u64, from: usize, to: usize, at: usize) -> Walk
     requires { walk.skipped < to }
     ensures { result ≡ part_taken s.now walk kind from to at }
 {
-    let fault = ie_verdict::part_fault(s, kind, from, to, seen_of(walk));
-    if fault == refusal::DONE {
-        return take(walk, kind, from, to);
+    match ie_verdict::part_fault(s, kind, from, to, seen_of(walk)) {
+        Ok(()) => take(walk, kind, from, to),
+        Err(refusal) => stop(walk, refusal, at),
     }
-    stop(walk, fault, at)
 }
 
 // The payload list from an offset on.
 #[cycle(group_outer)]
+#[tactic(auto, using(ie_walk_spec::proofs::ListLaws::lists))]
 fn outer(s: &[u8], at: usize, end: usize, walk: Walk) -> Walk
     requires { (at ≤ end) × (walk.skipped ≤ at) }
     ensures { OuterIs s.now at end walk result }
@@ -131,8 +130,8 @@ fn outer(s: &[u8], at: usize, end: usize, walk: Walk) -> Walk
                 noted = skip_one(noted);
                 i = to;
             }
-            OuterStep::Fault(number) => {
-                return stop(noted, number, i);
+            OuterStep::Fault(refusal) => {
+                return stop(noted, refusal, i);
             }
         }
     }
@@ -140,6 +139,7 @@ fn outer(s: &[u8], at: usize, end: usize, walk: Walk) -> Walk
 
 // An MLME group from an offset of it to its end. Behind it the payload list goes on; if it is at its end there, that is read too.
 #[cycle(group_outer)]
+#[tactic(auto, using(ie_walk_spec::proofs::ListLaws::lists))]
 fn group(s: &[u8], at: usize, to: usize, end: usize, walk: Walk) -> GroupEnd
     requires { (at ≤ to) × (to ≤ end) × (walk.skipped ≤ at) }
     ensures { GroupGives s.now at to end walk result }
@@ -161,32 +161,23 @@ fn group(s: &[u8], at: usize, to: usize, end: usize, walk: Walk) -> GroupEnd
                 }
                 i = next;
             }
-            InnerStep::Fault(number) => {
-                return GroupEnd::Whole(stop(noted, number, i));
+            InnerStep::Fault(refusal) => {
+                return GroupEnd::Whole(stop(noted, refusal, i));
             }
         }
     }
 }
 
 // Nothing was noted.
+#[tactic(auto, unfolding(ie_walk_spec::specs::Walk::blank_walk))]
 pub fn blank_walk() -> Walk
     ensures { result ≡ blank_walk }
 {
-    Walk {
-        fault: 0,
-        faulty: 0,
-        skipped: 0,
-        synchronization: 0,
-        timeslot: 0,
-        timeslotend: 0,
-        hopping: 0,
-        slotframe: 0,
-        joining: 0,
-        joiningend: 0,
-    }
+    Walk::default()
 }
 
 // The payload list from an offset to an end.
+#[tactic(auto, using(ie_walk_spec::proofs::ListLaws::lists))]
 pub fn payload_list(s: &[u8], at: usize, end: usize) -> Walk
     ensures { result ≡ payload_list s.now at end }
 {

@@ -8,6 +8,8 @@ use native.Mathlib.Omega.{arith}
 use native.Mathlib.Nat.{not-suc-le-zero, le_of_lt}
 use Rattle.octets_spec.proofs.ChoiceLaws.{if_eq_lem, if_ne_lem}
 use Rattle.ie_walk_spec.proofs.WalkLaws.{part_counts}
+use Rattle.refusal.specs.Refusal.{number_of}
+use Rattle.refusal.specs.declared.Refusal.{Refusal}
 use Rattle.ie_step_spec.proofs.StepLaws.{outer_end}
 use Rattle.ie_step_spec.specs.Header.{header_at, header_within}
 use Rattle.ie_step_spec.specs.Payload.{outer_at, outer_within, inner_at, inner_within}
@@ -60,9 +62,9 @@ module _ (s : List ℕ) (at end i n : ℕ) (o : HeaderStep) (is : o ≡ header_a
   unfolding header_go after
   header_payload from e = ends _ (λ bound. rw (sym is ∙ e, header_go, ← nothing_more))
 
-  pub header_fault : (number : ℕ) → o ≡ header.Fault number → HeaderLeads s at end i n → record { fault = number; faulty = i; skipped = n; payload = 0 } ≡ skipped_over (header_list s at end)
+  pub header_fault : (refusal : Refusal) (fault : ℕ) → o ≡ header.Fault refusal → fault ≡ number_of refusal → HeaderLeads s at end i n → record { fault = fault; faulty = i; skipped = n; payload = 0 } ≡ skipped_over (header_list s at end)
   unfolding header_go after
-  header_fault number e = ends _ (λ bound. rw (sym is ∙ e, header_go, ← nothing_more))
+  header_fault refusal fault e number = ends _ (λ bound. rw (sym is ∙ e, header_go, number, ← nothing_more))
 
   module _ (id from to : ℕ) (e : o ≡ header.Element id from to) (within : header_within o i end) where
     inside : (i < from) × (from ≤ to) × (to ≤ end)
@@ -114,9 +116,9 @@ module _ (s : List ℕ) (at end : ℕ) (w : Walk) (i : ℕ) (q : Walk) (o : Oute
   unfolding outer_go
   outer_none e leads = leads.gives q (outer_one s i end q q (λ bound _. rw (sym is ∙ e, outer_go)))
 
-  pub outer_fault : (number : ℕ) (r : Walk) → o ≡ outer.Fault number → r ≡ stopped q number i → OuterLeads s at end w i q → OuterIs s at end w r
+  pub outer_fault : (refusal : Refusal) (r : Walk) → o ≡ outer.Fault refusal → r ≡ stopped q (number_of refusal) i → OuterLeads s at end w i q → OuterIs s at end w r
   unfolding outer_go
-  outer_fault number r e k leads = leads.gives r (outer_one s i end q r (λ bound _. rw (sym is ∙ e, outer_go) k))
+  outer_fault refusal r e k leads = leads.gives r (outer_one s i end q r (λ bound _. rw (sym is ∙ e, outer_go) k))
 
   module _ (from to : ℕ) (within : outer_within o (i + 2) end) where
     module _ (e : o ≡ outer.Group from to) where
@@ -237,9 +239,9 @@ module _ (s : List ℕ) (at to end : ℕ) (w : Walk) (i : ℕ) (q : Walk) (o : I
   unfolding GroupGives
   group_passed e leads = (back_few s at to end w i q leads, λ r go. group_back r e go leads)
 
-  pub group_fault : (number : ℕ) (r : Walk) → o ≡ inner.Fault number → r ≡ stopped q number i → GroupLeads s at to end w i q → GroupGives s at to end w (end_of_lem.Whole r)
+  pub group_fault : (refusal : Refusal) (r : Walk) → o ≡ inner.Fault refusal → r ≡ stopped q (number_of refusal) i → GroupLeads s at to end w i q → GroupGives s at to end w (end_of_lem.Whole r)
   unfolding group_go GroupGives
-  group_fault number r e k leads = leads.gives r (group_one s i to end q r (λ bound _. rw (sym is ∙ e, group_go) k))
+  group_fault refusal r e k leads = leads.gives r (group_one s i to end q r (λ bound _. rw (sym is ∙ e, group_go) k))
 
   module _ (kind from next : ℕ) (e : o ≡ inner.Part kind from next) where
     module _ (within : inner_within o i to) where
@@ -283,4 +285,4 @@ module _ (s : List ℕ) (at end : ℕ) (w : Walk) (blank : w ≡ blank_walk) whe
 
 pub ruleset lists = (outer_start, outer_none, outer_fault, enter_low, enter_high, enter_few, enter_less, passed_less, outer_whole, outer_passed, joining_less, joining_few, joining_fault_lem, joining_turn, skip_less, skip_few, skip_turn, group_start, back_few, back_less, group_whole, group_passed, group_fault, part_less, part_few, part_fault_lem, part_turn, blank_few, payload_past, payload_is)
 
-pub ruleset header-lists = (header_start, header_none, header_payload, header_fault, header_less, header_few, header_turn)
+pub ruleset header_lists = (header_start, header_none, header_payload, header_fault, header_less, header_few, header_turn)

@@ -2,7 +2,7 @@
 -- checks). The bound, the first argument of each list, only has to be large enough. Assumes nothing.
 use Rattle.std.specs.Prelude.{ℕ, zero, suc, ◌+◌, ◌-◌, ◌*◌, ◌<◌, ◌≤◌, ◌≡◌, List, [], ◌∷◌, length}
 use Rattle.octets_spec.specs.Choice.{if_eq}
-use Rattle.refusal.specs.Refusal.{done}
+use Rattle.refusal.specs.Refusal.{done, number_of}
 use Rattle.ie_verdict_spec.specs.Verdict.{part_fault, synchronization_kind, timeslot_kind, hopping_kind, slotframe_kind, joining_kind}
 use Rattle.ie_verdict_spec.specs.declared.Seen.{Seen}
 use Rattle.ie_step_spec.specs.Header.{header_at}
@@ -109,7 +109,7 @@ header_go (suc bound) s at end =
       | header.End ↦ record { elements = []; fault = done; faulty = 0; payload = 0 }
       | header.Payload from ↦ record { elements = []; fault = done; faulty = 0; payload = from }
       | header.Element id from to ↦ in_front (record { id = id; from = from; to = to }) (header_go bound s to end)
-      | header.Fault number ↦ record { elements = []; fault = number; faulty = at; payload = 0 }
+      | header.Fault refusal ↦ record { elements = []; fault = number_of refusal; faulty = at; payload = 0 }
     ]
 
 -- the header list from an offset to an end
@@ -131,7 +131,7 @@ unfoldable mutual
         | outer.Group from to ↦ group_go bound s from to end walk
         | outer.Joining from to ↦ let taken : Walk = part_taken s walk joining_kind from to at in if_eq taken.fault done (outer_go bound s to end taken) taken
         | outer.Skip to ↦ outer_go bound s to end (skip_one walk)
-        | outer.Fault number ↦ stopped walk number at
+        | outer.Fault refusal ↦ stopped walk (number_of refusal) at
       ]
 
   -- a group from an offset of it to its end, and behind it the payload list
@@ -141,7 +141,7 @@ unfoldable mutual
       elim (inner_at s at to) [
         | inner.Back ↦ outer_go bound s to end walk
         | inner.Part kind from next ↦ let taken : Walk = part_taken s walk kind from next at in if_eq taken.fault done (group_go bound s next to end taken) taken
-        | inner.Fault number ↦ stopped walk number at
+        | inner.Fault refusal ↦ stopped walk (number_of refusal) at
       ]
 
 -- what the payload list gives, whatever the bound is, if it is large enough

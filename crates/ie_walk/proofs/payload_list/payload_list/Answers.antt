@@ -3,11 +3,5 @@ use Rattle.ie_walk_spec.proofs.ListLaws.{lists}
 use borrow.Author.Rules.{rules}
 use Rattle.ie_walk.proofs.payload_list.payload_list.Goals as goal
 
-pub returns-then-end-at : goal.returns-then-end-at
-returns-then-end-at c = search (rules, lists)
-
 pub outer-requires : goal.outer-requires
 outer-requires c = search (rules, lists)
-
-pub returns : goal.returns
-returns c = search (rules, lists)
