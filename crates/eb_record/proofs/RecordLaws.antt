@@ -1,19 +1,18 @@
 -- The laws of forms and their records, in the shape in which the code meets them. Assumes nothing.
-use Prim.Native.Nat.{ℕ, ◌%◌}
-use mathlib.Core.Path.{◌≡◌, refl}
-use mathlib.Core.Bool.{Bool, true, false, ◌&&◌, ◌||◌}
-use lib.Dec.{ltb, eqb}
+use Prim.Native.Nat.{ℕ, ◌%◌, ◌<◌}
+use mathlib.Core.Path.{◌≡◌, refl, sym, ◌∙◌}
+use mathlib.Core.List.{List}
+use lib.ListN.{replicate}
+use Rattle.std.specs.Array.{AllOfLen}
+use Rattle.std.proofs.lemmas.List.{ext_get_or, length-replicate, get_or-replicate}
+use mathlib.Core.Bool.{Bool, true, false}
 use Rattle.octets_spec.proofs.ChoiceLaws.{if_on_lem, if_off_lem}
 use Rattle.mac_header_spec.specs.declared.SequenceNumber.{SequenceNumber}
 use Rattle.mac_header_spec.specs.declared.SequenceNumber.TheVariants.{Absent, Number}
 use Rattle.mac_header_spec.specs.declared.Address.{Address}
 use Rattle.mac_header_spec.specs.declared.Address.TheVariants.{Short, Extended}
 use Rattle.eb_record_spec.specs.declared.BeaconForm.{BeaconForm}
-use Rattle.eb_record_spec.specs.Form.{sequence_from, address_from, beacon_of, is_beacon}
-
-pub form_tested : (form : BeaconForm) → (form.sequenced || eqb form.sequence 0) && (form.extended || ltb form.source 65536) ≡ is_beacon form
-unfolding is_beacon
-form_tested form = refl
+use Rattle.eb_record_spec.specs.Form.{sequence_from, address_from, beacon_of}
 
 module _ (mark : Bool) (number : ℕ) where
   pub sequence_there : mark ≡ true → Number number ≡ sequence_from mark number
@@ -38,4 +37,11 @@ module _ (form : BeaconForm) where
   unfolding beacon_of
   beacon_is sequence source e f = rw (e, f)
 
-pub ruleset forms = (form_tested, sequence_there, sequence_absent, address_extended, address_short, beacon_is)
+-- an array in which each place holds this value, as a derived default gives it
+pub all_same : {A : Type 0} (P : A → Type 0) (value : A) → ((x : A) → P x → x ≡ value) → (n : ℕ) (xs : List A) → AllOfLen P xs n → xs ≡ replicate n value
+all_same P value is n xs all =
+    ext_get_or value xs (replicate n value) (all.long ∙ sym (length-replicate n value)) (λ i below.
+    let inside : i < n = rw all.long at below in
+    is _ (all.at i value inside) ∙ sym (get_or-replicate n i value value inside))
+
+pub ruleset forms = (sequence_there, sequence_absent, address_extended, address_short, beacon_is)

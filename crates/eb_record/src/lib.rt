@@ -12,10 +12,13 @@ use mac_header_spec::{Address, SequenceNumber};
 pub fn is_beacon(form: BeaconForm) -> bool
     ensures { result ≡ is_beacon form }
 {
-    (form.sequenced | (form.sequence == 0)) & (form.extended | (form.source < 0x1_0000))
+    let sequence = eb_record_spec::sequence_in(form.sequenced, form.sequence);
+    let source = eb_record_spec::address_in(form.extended, form.source);
+    sequence.is_ok() & source.is_ok()
 }
 
-// A sequence number from its mark and its number.
+// A sequence number from its mark and its number, whatever the number is where there is none. Two fields of a form are no value that `From` could
+// take.
 pub fn sequence_from(sequenced: bool, number: u8) -> SequenceNumber
     ensures { result ≡ sequence_from sequenced number }
 {
@@ -25,7 +28,7 @@ pub fn sequence_from(sequenced: bool, number: u8) -> SequenceNumber
     SequenceNumber::Absent
 }
 
-// An address from its kind and its number.
+// An address from its kind and its number; a short one is cut to 16 bits.
 pub fn address_from(extended: bool, number: u64) -> Address
     ensures { result ≡ address_from extended number }
 {
@@ -35,7 +38,7 @@ pub fn address_from(extended: bool, number: u64) -> Address
     Address::Short((number % 0x1_0000) as u16)
 }
 
-// The record of a form.
+// The record of a form, of one that is no record's too: fields are told by it without a test of the whole form. `Beacon::try_from` tests it.
 pub fn beacon_of(form: BeaconForm) -> Beacon
     ensures { result ≡ beacon_of form }
 {
@@ -61,27 +64,7 @@ pub fn beacon_of(form: BeaconForm) -> Beacon
 pub fn blank_form() -> BeaconForm
     ensures { result ≡ form_of blank_beacon }
 {
-    BeaconForm {
-        sequenced: false,
-        sequence: 0,
-        pan: 0,
-        extended: false,
-        source: 0,
-        synchronization: eb_record_spec::Synchronization { asn: 0, metric: 0 },
-        timeslot: eb_record_spec::TimeslotTemplate {
-            id: 0,
-            timed: false,
-            timings: [0u32; 12],
-        },
-        hopping: 0,
-        slotframe: eb_record_spec::Slotframe {
-            handle: 0,
-            size: 0,
-            count: 0,
-            links: [eb_record_spec::blank_link(); 16],
-        },
-        joining: eb_record_spec::blank_joining(),
-    }
+    BeaconForm::default()
 }
 
 // The blank record, which a refused reading gives.

@@ -1,7 +1,9 @@
 -- The record without enums, as C has it: the form of a record, the record of a form, and which forms are a record's (docs/RULES.md, C
 -- interface). Assumes nothing.
-use Rattle.std.specs.Prelude.{ℕ, ◌-◌, ◌%◌, ◌^◌, ◌≡◌, Bool, true, false, ◌&&◌, ◌||◌, ltb, eqb}
+use Rattle.std.specs.Prelude.{ℕ, ◌-◌, ◌%◌, ◌^◌, ◌≡◌, Bool, true, false, ◌&&◌, ◌||◌, ltb, eqb, Result, Ok, Err}
 use Rattle.octets_spec.specs.Choice.{if_on}
+use Rattle.refusal.specs.declared.Refusal.{Refusal}
+use Rattle.refusal.specs.declared.Refusal.TheVariants.{OutOfLimits}
 use Rattle.mac_header_spec.specs.declared.SequenceNumber.{SequenceNumber}
 use Rattle.mac_header_spec.specs.declared.SequenceNumber.TheVariants.{Absent, Number}
 use Rattle.mac_header_spec.specs.declared.Address.{Address}
@@ -69,6 +71,18 @@ beacon_of form = record {
 -- a form is a record's: no number where the mark says that there is none, and no short source over 16 bits
 unfoldable pub is_beacon : BeaconForm → Bool
 is_beacon form = (form.sequenced || eqb form.sequence 0) && (form.extended || ltb form.source (2 ^ 16))
+
+-- a mark and a number are a sequence number's: no number where the mark says that there is none
+abbrev pub is_sequence : Bool → ℕ → Bool
+is_sequence sequenced number = sequenced || eqb number 0
+
+-- a kind and a number are an address's: no short one over 16 bits
+abbrev pub is_address : Bool → ℕ → Bool
+is_address extended number = extended || ltb number (2 ^ 16)
+
+-- what is made of a form that is a record's, or of a part of one; of another form nothing is made, and its number is out of limits
+unfoldable pub made_where : {A : Type 0} → Bool → A → Result A Refusal
+made_where test value = if_on test (Ok value) (Err OutOfLimits)
 
 -- an address has the bytes that its kind has
 unfoldable pub address_fits : Address → Bool

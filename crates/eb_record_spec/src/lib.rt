@@ -3,12 +3,16 @@
 #![tactic(auto)]
 
 ghost use Rattle.std.specs.Prelude.{◌≡◌};
+ghost use Rattle.eb_record_spec.specs.Form.{sequence_from, address_from, beacon_of, is_sequence, is_address, is_beacon, made_where};
 ghost use Rattle.eb_record_spec.specs.Form.{FormsGiveTheRecord, RecordsGiveTheForm, ExtendedHasItsForm, FormsOfNoRecord};
 ghost use Rattle.eb_record_spec.specs.Record.{blank_joining, blank_link};
 
+use mac_header_spec::{Address, SequenceNumber};
+use refusal::Refusal;
+
 // The synchronization element: the ASN (5 bytes on air) and the join metric.
 #[repr(C)]
-#[derive(Clone, Copy)]
+#[derive(Clone, Copy, Default)]
 pub struct Synchronization {
     pub asn: u64,
     pub metric: u8,
@@ -16,7 +20,7 @@ pub struct Synchronization {
 
 // The timeslot element: the template's ID and, where they are there, its twelve timings in microseconds.
 #[repr(C)]
-#[derive(Clone, Copy)]
+#[derive(Clone, Copy, Default)]
 pub struct TimeslotTemplate {
     pub id: u8,
     pub timed: bool,
@@ -26,7 +30,7 @@ pub struct TimeslotTemplate {
 // A link of the slotframe: its timeslot, its channel offset and its options, which are one byte on air. The options have 16 bits here, so that
 // a link has no padding; over 255 they are outside the limits of writing.
 #[repr(C)]
-#[derive(Clone, Copy)]
+#[derive(Clone, Copy, Default)]
 pub struct Link {
     pub timeslot: u16,
     pub channel_offset: u16,
@@ -36,7 +40,7 @@ pub struct Link {
 // The slotframe and link element: the slotframe's handle and size, and its links, of which the first `count` are used. The count is one byte on
 // air and has 16 bits here, so that no padding stands before the links; over 16 it is outside the limits of writing.
 #[repr(C)]
-#[derive(Clone, Copy)]
+#[derive(Clone, Copy, Default)]
 pub struct Slotframe {
     pub handle: u8,
     pub size: u16,
@@ -47,7 +51,7 @@ pub struct Slotframe {
 // Joining information: whether it is there, its R and P flags, its three priorities, the address of the join proxy (there if P is
 // set), and the network ID, of which the first `length` bytes are used.
 #[repr(C)]
-#[derive(Clone, Copy)]
+#[derive(Clone, Copy, Default)]
 pub struct JoiningInformation {
     pub present: bool,
     pub router: bool,
@@ -63,9 +67,9 @@ pub struct JoiningInformation {
 // The record.
 #[derive(Clone, Copy)]
 pub struct Beacon {
-    pub sequence: mac_header_spec::SequenceNumber,
+    pub sequence: SequenceNumber,
     pub pan: u16,
-    pub source: mac_header_spec::Address,
+    pub source: Address,
     pub synchronization: Synchronization,
     pub timeslot: TimeslotTemplate,
     pub hopping: u8,
@@ -76,7 +80,7 @@ pub struct Beacon {
 // The record without enums, as C has it: a mark beside the sequence number, which is 0 where the mark says that there is none, and the
 // kind of the source address beside its number.
 #[repr(C)]
-#[derive(Clone, Copy)]
+#[derive(Clone, Copy, Default)]
 pub struct BeaconForm {
     pub sequenced: bool,
     pub sequence: u8,
@@ -94,27 +98,57 @@ pub struct BeaconForm {
 pub fn blank_link() -> Link
     ensures { result ≡ blank_link }
 {
-    Link {
-        timeslot: 0,
-        channel_offset: 0,
-        options: 0,
-    }
+    Link::default()
 }
 
 // No joining information: what the blank record and a frame without it have.
 pub fn blank_joining() -> JoiningInformation
     ensures { result ≡ blank_joining }
 {
-    JoiningInformation {
-        present: false,
-        router: false,
-        proxied: false,
-        proxy: 0,
-        rank: 0,
-        pan: 0,
-        address: 0,
-        length: 0,
-        network: [0u8; 16],
+    JoiningInformation::default()
+}
+
+// A sequence number from its mark and its number, which must be 0 where the mark says that there is none.
+pub fn sequence_in(sequenced: bool, number: u8) -> Result<SequenceNumber, Refusal>
+    ensures { result ≡ made_where (is_sequence sequenced number) (sequence_from sequenced number) }
+{
+    match (sequenced, number) {
+        (true, number) => Ok(SequenceNumber::Number(number)),
+        (false, 0) => Ok(SequenceNumber::Absent),
+        (false, _) => Err(Refusal::OutOfLimits),
+    }
+}
+
+// An address from its kind and its number, which must have 16 bits where it is short.
+pub fn address_in(extended: bool, number: u64) -> Result<Address, Refusal>
+    ensures { result ≡ made_where (is_address extended number) (address_from extended number) }
+{
+    if extended {
+        return Ok(Address::Extended(number));
+    }
+    match u16::try_from(number) {
+        Ok(short) => Ok(Address::Short(short)),
+        Err(_) => Err(Refusal::OutOfLimits),
+    }
+}
+
+// The record of a form, where it is a record's.
+impl TryFrom<BeaconForm> for Beacon {
+    type Error = Refusal;
+
+    ghost try_from_gives = { λ form result. result ≡ made_where (is_beacon form) (beacon_of form) };
+
+    fn try_from(form: BeaconForm) -> Result<Beacon, Refusal> {
+        Ok(Beacon {
+            sequence: sequence_in(form.sequenced, form.sequence)?,
+            pan: form.pan,
+            source: address_in(form.extended, form.source)?,
+            synchronization: form.synchronization,
+            timeslot: form.timeslot,
+            hopping: form.hopping,
+            slotframe: form.slotframe,
+            joining: form.joining,
+        })
     }
 }
 

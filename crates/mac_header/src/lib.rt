@@ -2,7 +2,7 @@
 // frames are accepted.
 #![tactic(auto)]
 
-ghost use Rattle.std.specs.Prelude.{◌≡◌, ◌≤◌, ◌<◌, get_or};
+ghost use Rattle.std.specs.Prelude.{◌≡◌, ◌≤◌, ◌<◌, get_or, length};
 ghost use Rattle.octets_spec.specs.Choice.{if_eq};
 ghost use Rattle.octets_spec.specs.Number.{le_at};
 ghost use Rattle.mac_header_spec.specs.Control.{control_of};
@@ -77,6 +77,16 @@ pub fn offsets_of(control: Control, size: usize) -> FieldOffsets
     }
 }
 
+// Frame control, and where the fields and the elements of a frame are. Where the frame ends before them, the missing bytes read as 0.
+#[inline(always)]
+pub fn layout(s: &[u8]) -> (Control, FieldOffsets)
+    ensures control { result.0 ≡ control_of (le_at 2 s.now 0) }
+    ensures offsets { result.1 ≡ offsets_of result.0 (length s.now) }
+{
+    let control = control_of(octets::get::le(s, 0, 2));
+    (control, offsets_of(control, s.len()))
+}
+
 // The sequence number, 0 where it is suppressed.
 pub fn sequence(s: &[u8], suppressed: u64) -> u8
     ensures { result ≡ if_eq suppressed 0 (get_or s.now 2 0) 0 }
@@ -93,13 +103,14 @@ pub fn address(s: &[u8], mode: u64, at: usize) -> u64
     octets::choose(mode, mac_header_spec::EXTENDED, long, short)
 }
 
-// The fields of a frame's MAC header. Where the frame ends before them, the missing bytes read as 0.
+// The fields of a frame's MAC header. Where the frame ends before them, the missing bytes read as 0. Inlined into each of its callers, since each
+// reads frames in one pass (docs/SPEED.md).
+#[inline(always)]
 pub fn read(s: &[u8]) -> MacHeader
     ensures fields { result ≡ mac_header_of s.now }
     ensures short { AddressesFit result }
 {
-    let control = control_of(octets::get::le(s, 0, 2));
-    let offsets = offsets_of(control, s.len());
+    let (control, offsets) = layout(s);
     let pan = offsets.pan;
     let destination = offsets.destination;
     let source = offsets.source;
