@@ -5,8 +5,6 @@ use mathlib.Core.List.{List, ◌++◌}
 use native.Mathlib.Omega.{arith}
 use lib.ListN.{length}
 use Rattle.octets_spec.specs.Number.{le_bytes, stored}
-use Rattle.octets_spec.proofs.PutLaws.{stored_out}
-use Rattle.octets_spec.proofs.CountedLaws.{length_mapped}
 use Rattle.eb_record_spec.specs.declared.Beacon.{Beacon}
 use Rattle.eb_write_spec.specs.Frame.{sequence_bytes, address_bytes, header_descriptor, group_size, joining_bytes, beacon_mac_header, beacon_group, frame_of}
 use Rattle.eb_write_spec.proofs.LengthLaws.{length_le, length_mac_header, length_group_used}
@@ -28,5 +26,3 @@ unfolding frame_of
 frame_put b s t u q a sequence source e g =
     let from : 0 + (6 + q + a) ≡ 6 + q + a = omega arith in
     two s 0 (beacon_mac_header b) _ t (6 + q + a) e (omega (arith, length_mac_header b.sequence b.pan b.source)) u (rw from g)
-
-pub ruleset framings = (stored_out, length_mapped, before_is, elements_put, frame_put)

@@ -3,46 +3,39 @@ use Prim.Native.Nat.{ℕ, ◌+◌, ◌*◌, ◌<◌, ◌≤◌, min}
 use mathlib.Core.Path.{◌≡◌, refl, sym, ◌∙◌, ap}
 use mathlib.Core.Bool.{Bool, true, false}
 use mathlib.Core.List.{List, [], ◌∷◌, ◌++◌, append_assoc}
-use native.Mathlib.Nat.{add-zero, mod-eq_of_lt}
+use native.Mathlib.Nat.{mod-eq_of_lt}
 use native.Mathlib.Omega.{arith}
-use lib.ListN.{length, get_or, take, drop, length-append}
+use lib.ListN.{length, get_or, take, length-append}
+use lib.Seq.{take_all, length-take-le}
+use mir.Val.{bool_byte}
+use Rattle.std.proofs.lemmas.List.{take_more}
 use Rattle.octets_spec.specs.Choice.{if_on}
 use Rattle.octets_spec.specs.Number.{le_bytes, be_bytes, stored}
-use Rattle.octets_spec.proofs.PutLaws.{stored_out}
-use Rattle.octets_spec.proofs.ChoiceLaws.{choices, if_on_lem, if_off_lem}
+use Rattle.octets_spec.proofs.ChoiceLaws.{if_on_lem, if_off_lem}
 use Rattle.eb_record_spec.specs.declared.JoiningInformation.{JoiningInformation}
 use Rattle.eb_write_spec.specs.Frame.{group_descriptor, flag, joining_word, joining_size, joining_bytes}
 use Rattle.eb_write_spec.proofs.LengthLaws.{length_le, length_be}
 use Rattle.eb_write_spec.proofs.RangeLaws.{clip_take}
-use Rattle.eb_write_spec.proofs.RowLaws.{two, nothing, run_next, run_end, le_joined}
+use Rattle.eb_write_spec.proofs.RowLaws.{two, nothing, le_joined}
 
--- ---- the bytes of a network ID
-abbrev single : ℕ → List ℕ
-single x = x ∷ []
-
+-- ---- the bytes of a network ID, of which some are put
 one_byte : (b : ℕ) → b < 256 → le_bytes 1 b ≡ b ∷ []
 unfolding le_bytes
 one_byte b small = rw (mod-eq_of_lt small)
 
-module _ (s : List ℕ) (at : ℕ) where
-  -- bytes
-  module _ (bs : List ℕ) (n : ℕ) where
-    by_one : (i : ℕ) → at + 1 * i ≡ at + i
-    by_one i = omega arith
+module _ (s : List ℕ) (at : ℕ) (bs : List ℕ) (i : ℕ) (t : List ℕ) (put : t ≡ stored s at (take i bs)) where
+  pub bytes_next : (b : ℕ) (u : List ℕ) → i < length bs → b ≡ get_or bs i 0 → b < 256 → u ≡ stored t (at + i) (le_bytes 1 b) → u ≡ stored s at (take (i + 1) bs)
+  bytes_next b u within is small e = rw (take_more bs i 0 within, sym is) (two s at (take i bs) (b ∷ []) t i put (length-take-le i bs (omega arith)) u (rw (one_byte b small) at e))
 
-    pub bytes_start : stored s (at + 0) (drop 0 (take n bs)) ≡ stored s at (take n bs)
-    bytes_start = rw (add-zero at)
-
-    module _ (whole : List ℕ) (i : ℕ) (left : stored s (at + i) (drop i (take n bs)) ≡ whole) where
-      pub bytes_next : (size b : ℕ) (t : List ℕ) → length bs ≡ size → n ≤ size → i < n → b ≡ get_or bs i 0 → b < 256 → t ≡ stored s (at + i) (le_bytes 1 b) → stored t (at + (i + 1)) (drop (i + 1) (take n bs)) ≡ whole
-      bytes_next size b t long short within is small put =
-          rw (sym (by_one (i + 1)))
-          (run_next single (λ xs. xs) 1 refl (λ x xs. refl) (λ x. refl) bs n s at whole i (rw (by_one i) left) size 0 t long short within (rw (by_one i, sym is) (rw (one_byte b small) at put)))
-
-      pub bytes_end : i ≤ n → n ≤ i → s ≡ whole
-      bytes_end = run_end single (λ xs. xs) 1 refl (λ x xs. refl) (λ x. refl) bs n s at whole i (rw (by_one i) left)
+  pub bytes_end : length bs ≤ i → t ≡ stored s at bs
+  bytes_end over = put ∙ ap (stored s at) (take_all i bs over)
 
 -- ---- the numbers
+pub flag_is : (set : Bool) → bool_byte set ≡ flag set
+unfolding if_on
+flag_is true = refl
+flag_is false = refl
+
 pub word_is : (j : JoiningInformation) (r p : ℕ) → r ≡ flag j.router → p ≡ flag j.proxied → r * 2147483648 + p * 1073741824 + j.proxy * 1048576 + j.rank * 256 + j.pan ≡ joining_word j
 unfolding joining_word
 word_is j r p e f = rw (e, f)
@@ -81,5 +74,3 @@ module _ (s : List ℕ) (at : ℕ) (j : JoiningInformation) where
   pub joining_none : j.present ≡ false → s ≡ stored s at (joining_bytes j)
   unfolding joining_bytes
   joining_none off = nothing s at ∙ ap (stored s at) (if_off_lem _ _ j.present off refl)
-
-pub ruleset joinings = (choices, stored_out, bytes_start, bytes_next, bytes_end, word_is, joining_starts, rest_put, joining_put, joining_none)

@@ -4,7 +4,7 @@
 ghost use Rattle.std.specs.Prelude.{◌≡◌, [], ◌++◌, ◌+◌, ◌≤◌, ◌<◌, ◌^◌, length, take};
 ghost use Rattle.octets_spec.specs.Choice.{if_on};
 ghost use Rattle.octets_spec.specs.Number.{le_bytes, be_bytes, stored};
-ghost use Rattle.eb_write_spec.specs.Frame.{suppressed_bit, sequence_bytes, address_mode, address_bytes, control_word, mac_header_bytes, header_termination1, header_descriptor, ietf_group, joining_subtype, group_descriptor, flag, joining_word, joining_size, joining_bytes, beacon_group, frame_of};
+ghost use Rattle.eb_write_spec.specs.Frame.{suppressed_bit, sequence_bytes, address_mode, address_bytes, control_word, mac_header_bytes, header_termination1, header_descriptor, ietf_group, joining_subtype, group_descriptor, joining_word, joining_size, joining_bytes, beacon_group, frame_of};
 
 use eb_record_spec::{Beacon, JoiningInformation};
 use mac_header_spec::{Address, SequenceNumber};
@@ -39,6 +39,7 @@ const PROXY_PRIORITY: u64 = 0x10_0000;
 const RANK_PRIORITY: u64 = 0x100;
 
 // The bit of frame control that says that there is no sequence number.
+#[tactic(auto, unfolding(eb_write_spec::specs::Frame::suppressed_bit))]
 pub fn suppressed_bit(sequence: SequenceNumber) -> u64
     ensures { (result ≡ suppressed_bit sequence) × (result ≤ 1) }
 {
@@ -49,6 +50,7 @@ pub fn suppressed_bit(sequence: SequenceNumber) -> u64
 }
 
 // The addressing mode of an address.
+#[tactic(auto, unfolding(eb_write_spec::specs::Frame::address_mode))]
 pub fn address_mode(address: Address) -> u64
     ensures { (result ≡ address_mode address) × (result ≤ 3) }
 {
@@ -58,6 +60,7 @@ pub fn address_mode(address: Address) -> u64
     }
 }
 
+#[tactic(auto, unfolding(eb_write_spec::specs::Frame::control_word))]
 fn control_word(sequence: SequenceNumber, source: Address) -> u64
     ensures { (result ≡ control_word sequence source) × (result < 65536) }
 {
@@ -65,6 +68,7 @@ fn control_word(sequence: SequenceNumber, source: Address) -> u64
 }
 
 // What the byte of a sequence number holds, if there is one.
+#[tactic(auto, using(eb_write_spec::proofs::LengthLaws::length_le), unfolding(eb_write_spec::specs::Frame::sequence_bytes, octets_spec::specs::Number::le_bytes))]
 pub fn sequence_number(sequence: SequenceNumber) -> u64
     ensures { (le_bytes (length (sequence_bytes sequence)) result ≡ sequence_bytes sequence) × (result < 256) }
 {
@@ -75,6 +79,7 @@ pub fn sequence_number(sequence: SequenceNumber) -> u64
 }
 
 // What the bytes of an address hold.
+#[tactic(auto, using(eb_write_spec::proofs::LengthLaws::length_le), unfolding(eb_write_spec::specs::Frame::address_bytes))]
 pub fn address_number(address: Address) -> u64
     ensures { le_bytes (length (address_bytes address)) result ≡ address_bytes address }
 {
@@ -100,41 +105,24 @@ fn put_mac_header(buffer: &mut [u8], sequence: SequenceNumber, pan: u16, source:
     );
 }
 
-fn flag_of(set: bool) -> u64
-    ensures { (result ≡ flag set) × (result ≤ 1) }
-{
-    if set {
-        return 1;
-    }
-    0
-}
-
 // The flags and priorities of joining information.
 fn joining_word(joining: JoiningInformation) -> u64
     ensures { result ≡ joining_word joining }
 {
-    flag_of(joining.router) * ROUTER
-        + flag_of(joining.proxied) * PROXIED
+    u64::from(joining.router) * ROUTER
+        + u64::from(joining.proxied) * PROXIED
         + joining.proxy as u64 * PROXY_PRIORITY
         + joining.rank as u64 * RANK_PRIORITY
         + joining.pan as u64
 }
 
-fn wide(value: u8) -> u64
-    ensures { (result ≡ value) × (result < 256) }
+// The used bytes of a network ID: bytes as they are, and not numbers of a width as the timings and links of `eb_mlme` are, so that its loop is its own.
+fn put_network(buffer: &mut [u8], at: usize, used: &[u8])
+    requires { (length used.now ≤ 16) × (at < 2 ^ 63 + 1024) }
+    ensures { buffer.new ≡ stored buffer.old at used.now }
 {
-    value as u64
-}
-
-// The first bytes of a network ID.
-fn put_network(buffer: &mut [u8], at: usize, network: [u8; 16], used: usize)
-    requires { (used ≤ 16) × (at < 2 ^ 63 + 1024) }
-    ensures { buffer.new ≡ stored buffer.old at (take used network) }
-{
-    let mut i = 0;
-    while i < used {
-        octets::put::put_le(buffer, at + i, 1, wide(network[i]));
-        i += 1;
+    for (i, byte) in used.iter().enumerate() {
+        octets::put::put_le(buffer, at + i, 1, u64::from(*byte));
     }
 }
 
@@ -143,15 +131,10 @@ fn put_joining_rest(buffer: &mut [u8], at: usize, joining: JoiningInformation)
     requires { at < 2 ^ 63 + 512 }
     ensures { buffer.new ≡ stored buffer.old at (if_on joining.proxied (be_bytes 8 joining.address) [] ++ take joining.length joining.network) }
 {
-    let network = joining.network;
-    let width = 8 * flag_of(joining.proxied) as u8;
+    let width = 8 * u8::from(joining.proxied);
+    let used = eb_limits::sizes::at_most_16(u16::from(joining.length));
     octets::put::put_be(buffer, at, width, joining.address);
-    put_network(
-        buffer,
-        at + width as usize,
-        network,
-        eb_limits::sizes::at_most_16(joining.length as u16),
-    );
+    put_network(buffer, at + width as usize, &joining.network[..used]);
 }
 
 // The start of joining information: descriptor and subtype as one number of three bytes, then the flags and priorities.
@@ -176,7 +159,6 @@ fn put_joining(buffer: &mut [u8], at: usize, joining: JoiningInformation)
     if joining.present {
         put_joining_start(buffer, at, joining);
         put_joining_rest(buffer, at + 7, joining);
-        return;
     }
 }
 

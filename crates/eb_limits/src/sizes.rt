@@ -13,6 +13,7 @@ const SHORT_SIZE: usize = 2;
 const EXTENDED_SIZE: usize = 8;
 
 // The bytes of a sequence number.
+#[tactic(auto, using(eb_write_spec::proofs::LengthLaws::length_le), unfolding(eb_write_spec::specs::Frame::sequence_bytes))]
 pub fn sequence_size(sequence: SequenceNumber) -> usize
     ensures { (result ≡ length (sequence_bytes sequence)) × (result ≤ 1) }
 {
@@ -23,6 +24,7 @@ pub fn sequence_size(sequence: SequenceNumber) -> usize
 }
 
 // The bytes of an address.
+#[tactic(auto, using(eb_write_spec::proofs::LengthLaws::length_le), unfolding(eb_write_spec::specs::Frame::address_bytes))]
 pub fn address_size(address: Address) -> usize
     ensures { (result ≡ length (address_bytes address)) × (result ≤ 8) }
 {
@@ -33,8 +35,8 @@ pub fn address_size(address: Address) -> usize
 }
 
 // The bytes of each of the last two timings.
-pub fn last_width(timings: [u32; 12]) -> u8
-    ensures { (result ≡ last_width (drop 10 timings)) × (result ≤ 3) }
+pub fn last_width(timings: &[u32; 12]) -> u8
+    ensures { (result ≡ last_width (drop 10 timings.now)) × (result ≤ 3) }
 {
     if timings[10] < crate::OVER_2_BYTES {
         if timings[11] < crate::OVER_2_BYTES {
@@ -46,18 +48,19 @@ pub fn last_width(timings: [u32; 12]) -> u8
 }
 
 // The bytes of a timeslot element behind its descriptor: the ID, and of the timings ten of two bytes and two of the last width.
+#[tactic(auto, unfolding(eb_write_spec::specs::Frame::template_size, octets_spec::specs::Choice::if_on))]
 pub fn template_size(template: TimeslotTemplate) -> usize
     ensures { (result ≡ template_size template) × (result ≤ 27) }
 {
-    let timings = template.timings;
     if template.timed {
-        return 21 + 2 * last_width(timings) as usize;
+        return 21 + 2 * last_width(&template.timings) as usize;
     }
     1
 }
 
 // The bytes of the MLME group behind its descriptor, with a timeslot element and so many links: synchronization has 8, the timeslot
 // element's descriptor 2, hopping 3, and what stands before the links 7.
+#[tactic(auto, unfolding(eb_write_spec::specs::Frame::group_size))]
 pub fn group_size(template: TimeslotTemplate, count: u16) -> usize
     ensures { (result ≡ group_size template count) × (result ≤ 327722) }
 {
@@ -66,6 +69,7 @@ pub fn group_size(template: TimeslotTemplate, count: u16) -> usize
 
 // The bytes of joining information behind its descriptor: the subtype, 4 of flags and priorities, 8 of the address if P is set, and the
 // network ID.
+#[tactic(auto, unfolding(eb_write_spec::specs::Frame::joining_size, octets_spec::specs::Choice::if_on))]
 pub fn joining_size(joining: JoiningInformation) -> usize
     ensures { (result ≡ joining_size joining) × (result ≤ 268) }
 {
@@ -76,6 +80,7 @@ pub fn joining_size(joining: JoiningInformation) -> usize
 }
 
 // The bytes of joining information with its descriptor, none if it is absent.
+#[tactic(auto, unfolding(octets_spec::specs::Choice::if_on))]
 fn joining_part(joining: JoiningInformation) -> usize
     ensures { (result ≡ if_on joining.present (2 + joining_size joining) 0) × (result ≤ 270) }
 {
@@ -91,10 +96,8 @@ pub fn frame_length(beacon: eb_record_spec::Beacon) -> usize
     ensures formula { result ≡ frame_length beacon }
     ensures frame { fits beacon ≡ true → result ≡ length (frame_of beacon) }
 {
-    let sequence = beacon.sequence;
-    let source = beacon.source;
-    10 + sequence_size(sequence)
-        + address_size(source)
+    10 + sequence_size(beacon.sequence)
+        + address_size(beacon.source)
         + group_size(beacon.timeslot, beacon.slotframe.count)
         + joining_part(beacon.joining)
 }
@@ -103,8 +106,5 @@ pub fn frame_length(beacon: eb_record_spec::Beacon) -> usize
 pub fn at_most_16(count: u16) -> usize
     ensures { (result ≡ min count 16) × (result ≤ 16) }
 {
-    if count < 16 {
-        return count as usize;
-    }
-    16
+    usize::from(count.min(16))
 }

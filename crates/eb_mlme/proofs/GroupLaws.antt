@@ -5,7 +5,6 @@ use mathlib.Core.List.{List, ◌++◌, append_assoc}
 use native.Mathlib.Omega.{arith}
 use lib.ListN.{length, length-append}
 use Rattle.octets_spec.specs.Number.{le_bytes, stored}
-use Rattle.octets_spec.proofs.PutLaws.{stored_out}
 use Rattle.eb_record_spec.specs.declared.Synchronization.{Synchronization}
 use Rattle.eb_record_spec.specs.declared.TimeslotTemplate.{TimeslotTemplate}
 use Rattle.eb_record_spec.specs.declared.Slotframe.{Slotframe}
@@ -42,5 +41,3 @@ module _ (s : List ℕ) (at : ℕ) (t : List ℕ) (u : List ℕ) where
   unfolding group_bytes group_descriptor
   group_put y m id f size twelve is e g =
       two s at _ _ t (12 + size) e (simp (length-append, length_le, length_synchronization) (omega (arith, length_template m twelve))) u g ∙ ap (stored s at) (simp append_assoc refl)
-
-pub ruleset grouping = (stored_out, synchronization_number, group_starts, rest_put, group_put)

@@ -1,3 +1,4 @@
+pub mod EachLaws
 pub mod TemplateLaws
 pub mod SlotframeLaws
 pub mod GroupLaws

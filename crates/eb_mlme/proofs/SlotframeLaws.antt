@@ -1,43 +1,25 @@
 -- The laws of putting the slotframe and link element, in the shape in which the code meets them. Assumes nothing.
-use Prim.Native.Nat.{ℕ, ◌+◌, ◌*◌, ◌/◌, ◌%◌, ◌<◌, ◌≤◌, min}
+use Prim.Native.Nat.{ℕ, ◌+◌, ◌*◌, ◌/◌, ◌%◌, ◌<◌, min}
 use mathlib.Core.Path.{◌≡◌, refl, ◌∙◌, ap}
 use mathlib.Core.List.{List, ◌++◌, append_assoc}
 use native.Mathlib.Omega.{arith}
-use lib.ListN.{length, get_or, take, drop, length-append}
+use lib.ListN.{length, take}
+use Rattle.std.specs.List.{flat_map}
 use Rattle.octets_spec.specs.Number.{le_bytes, stored}
-use Rattle.octets_spec.proofs.PutLaws.{stored_out}
-use Rattle.octets_spec.proofs.CountedLaws.{length_mapped}
 use Rattle.eb_record_spec.specs.declared.Link.{Link}
 use Rattle.eb_record_spec.specs.declared.Slotframe.{Slotframe}
-use Rattle.eb_write_spec.specs.Frame.{short_descriptor, link_bytes, links_bytes, slotframe_bytes}
+use Rattle.eb_write_spec.specs.Frame.{short_descriptor, link_bytes, slotframe_bytes}
 use Rattle.eb_write_spec.proofs.LengthLaws.{length_le}
 use Rattle.eb_write_spec.proofs.RangeLaws.{clip_take}
-use Rattle.eb_write_spec.proofs.RowLaws.{two, run_start, run_next, run_end, le_joined, le_low}
+use Rattle.eb_write_spec.proofs.RowLaws.{two, le_joined, le_low}
+use Rattle.eb_mlme.proofs.EachLaws.{links_are}
 
--- ---- a link, and the links
+-- ---- a link
 pub link_number_lem : (l : Link) → l.timeslot < 65536 → l.channel_offset < 65536 → le_bytes 5 (l.timeslot + l.channel_offset * 65536 + l.options * 4294967296) ≡ link_bytes l
 unfolding link_bytes
 link_number_lem l timeslot offset =
     let one : l.timeslot + l.channel_offset * 65536 + l.options * 4294967296 ≡ l.timeslot + 65536 * (l.channel_offset + 65536 * l.options) = omega arith in
     rw one (le_joined 2 3 l.timeslot (l.channel_offset + 65536 * l.options) timeslot ∙ ap (λ (xs : List ℕ). le_bytes 2 l.timeslot ++ xs) (le_joined 2 1 l.channel_offset l.options offset))
-
-length_link : (l : Link) → length (link_bytes l) ≡ 5
-unfolding link_bytes
-length_link l = simp (length-append, length_le) refl
-
-module _ (s : List ℕ) (at : ℕ) (ls : List Link) (n : ℕ) where
-  pub links_start : stored s (at + 5 * 0) (links_bytes (drop 0 (take n ls))) ≡ stored s at (links_bytes (take n ls))
-  unfolding links_bytes
-  links_start = run_start link_bytes links_bytes 5 refl (λ x xs. refl) length_link ls n s at
-
-  module _ (whole : List ℕ) (i : ℕ) (left : stored s (at + 5 * i) (links_bytes (drop i (take n ls))) ≡ whole) where
-    pub links_next : (size : ℕ) (d : Link) (t : List ℕ) (number : ℕ) → length ls ≡ size → n ≤ size → i < n → le_bytes 5 number ≡ link_bytes (get_or ls i d) → t ≡ stored s (at + 5 * i) (le_bytes 5 number) → stored t (at + 5 * (i + 1)) (links_bytes (drop (i + 1) (take n ls))) ≡ whole
-    unfolding links_bytes
-    links_next size d t number long short within is put = run_next link_bytes links_bytes 5 refl (λ x xs. refl) length_link ls n s at whole i left size d t long short within (rw is at put)
-
-    pub links_end : i ≤ n → n ≤ i → s ≡ whole
-    unfolding links_bytes
-    links_end = run_end link_bytes links_bytes 5 refl (λ x xs. refl) length_link ls n s at whole i left
 
 -- ---- the element
 pub head_number : (handle size count : ℕ) → handle < 256 → size < 65536
@@ -51,9 +33,7 @@ head_number handle size count h s =
 
 pub slotframe_put : (s : List ℕ) (at : ℕ) (t u : List ℕ) (f : Slotframe) (head used : ℕ) → length f.links ≡ 16 → used ≡ min f.count 16
     → le_bytes 7 head ≡ short_descriptor 27 (5 + 5 * f.count) ++ (le_bytes 1 1 ++ (le_bytes 1 f.handle ++ (le_bytes 2 f.size ++ le_bytes 1 f.count)))
-    → t ≡ stored s at (le_bytes 7 head) → u ≡ stored t (at + 7) (links_bytes (take used f.links)) → u ≡ stored s at (slotframe_bytes f)
+    → t ≡ stored s at (le_bytes 7 head) → u ≡ stored t (at + 7) (flat_map link_bytes (take used f.links)) → u ≡ stored s at (slotframe_bytes f)
 unfolding slotframe_bytes
 slotframe_put s at t u f head used sixteen is number e g =
-    two s at _ _ t 7 e (length_le 7 head) u (rw (is, clip_take f.links f.count 16 sixteen) at g) ∙ ap (stored s at) (rw number (simp append_assoc refl))
-
-pub ruleset slotframes = (stored_out, length_mapped, link_number_lem, links_start, links_next, links_end, head_number, slotframe_put)
+    two s at _ _ t 7 e (length_le 7 head) u (rw (is, clip_take f.links f.count 16 sixteen, links_are (take f.count f.links)) at g) ∙ ap (stored s at) (rw number (simp append_assoc refl))

@@ -1,9 +1,11 @@
-// The MLME group of a frame, put into a lent buffer from an offset on; past the end of the buffer nothing is stored.
+// The MLME group of a frame, put into a lent buffer from an offset on; past the end of the buffer nothing is stored. Buffer and offset are no struct:
+// each part has an offset of its own, and asks of it no more than that what it adds does not wrap.
 #![tactic(auto)]
 
 ghost use Rattle.std.specs.Prelude.{◌≡◌, ◌++◌, ◌+◌, ◌*◌, ◌≤◌, ◌<◌, ◌^◌, length, take, drop};
 ghost use Rattle.octets_spec.specs.Number.{le_bytes, stored};
-ghost use Rattle.eb_write_spec.specs.Frame.{mlme_group, slotframe_id, group_descriptor, short_descriptor, numbers_in, last_width, link_bytes, links_bytes, synchronization_bytes, template_bytes, hopping_bytes, slotframe_bytes, group_size, group_bytes};
+ghost use Rattle.eb_mlme.specs.Each.{PutEach};
+ghost use Rattle.eb_write_spec.specs.Frame.{mlme_group, slotframe_id, group_descriptor, short_descriptor, timings_bytes, link_bytes, synchronization_bytes, template_bytes, hopping_bytes, slotframe_bytes, group_size, group_bytes};
 
 use eb_record_spec::{Link, Slotframe, Synchronization, TimeslotTemplate};
 
@@ -43,26 +45,31 @@ fn synchronization_number(synchronization: Synchronization) -> u64
         + synchronization.metric as u64 * BYTE_7
 }
 
-// The first ten timings, two bytes each.
-fn put_first_timings(buffer: &mut [u8], at: usize, timings: [u32; 12])
-    requires { at < 2 ^ 63 + 1024 }
-    ensures { buffer.new ≡ stored buffer.old at (numbers_in 2 (take 10 timings)) }
+// Items one after the other, each as a number of so many bytes.
+fn put_each<T: Copy, F: Fn(T) -> u64>(
+    buffer: &mut [u8],
+    at: usize,
+    width: u8,
+    items: &[T],
+    number: F,
+)
+    requires callable { F.IsAlwaysCallable number }
+    requires inside { (at < 2 ^ 63 + 2048) × (width ≤ 8) × (length items.now ≤ 16) }
+    ensures { PutEach (F.post number) width items.now buffer.old at buffer.new }
 {
-    let mut i = 0;
-    while i < 10 {
-        octets::put::put_le(buffer, at + 2 * i, 2, timings[i] as u64);
-        i += 1;
+    for (i, item) in items.iter().enumerate() {
+        octets::put::put_le(buffer, at + usize::from(width) * i, width, number(*item));
     }
 }
 
-// The last two timings, two or three bytes each.
-fn put_last_timings(buffer: &mut [u8], at: usize, timings: [u32; 12])
+// The timings: ten of two bytes each, and the last two of two or three.
+fn put_timings(buffer: &mut [u8], at: usize, timings: &[u32; 12])
     requires { at < 2 ^ 63 + 1024 }
-    ensures { (buffer.new ≡ stored buffer.old at (numbers_in (last_width (drop 10 timings)) (drop 10 timings))) × (length timings ≡ 12) }
+    ensures { buffer.new ≡ stored buffer.old at (timings_bytes timings.now) }
 {
     let width = eb_limits::sizes::last_width(timings);
-    octets::put::put_le(buffer, at, width, timings[10] as u64);
-    octets::put::put_le(buffer, at + width as usize, width, timings[11] as u64);
+    put_each(buffer, at, 2, &timings[..10], u64::from);
+    put_each(buffer, at + 20, width, &timings[10..], u64::from);
 }
 
 // The timeslot element: its descriptor and ID as one number of three bytes, then the timings if they are there.
@@ -70,7 +77,6 @@ fn put_template(buffer: &mut [u8], at: usize, template: TimeslotTemplate)
     requires { at < 2 ^ 63 + 64 }
     ensures { buffer.new ≡ stored buffer.old at (template_bytes template) }
 {
-    let timings = template.timings;
     let size = eb_limits::sizes::template_size(template);
     octets::put::put_le(
         buffer,
@@ -79,9 +85,7 @@ fn put_template(buffer: &mut [u8], at: usize, template: TimeslotTemplate)
         size as u64 + TIMESLOT_DESCRIPTOR + template.id as u64 * BYTE_2,
     );
     if template.timed {
-        put_first_timings(buffer, at + 3, timings);
-        put_last_timings(buffer, at + 23, timings);
-        return;
+        put_timings(buffer, at + 3, &template.timings);
     }
 }
 
@@ -90,17 +94,6 @@ fn link_number(link: Link) -> u64
     ensures { le_bytes 5 result ≡ link_bytes link }
 {
     link.timeslot as u64 + link.channel_offset as u64 * BYTE_2 + link.options as u64 * BYTE_4
-}
-
-fn put_links(buffer: &mut [u8], at: usize, links: [Link; 16], used: usize)
-    requires { (used ≤ 16) × (at < 2 ^ 63 + 1024) }
-    ensures { buffer.new ≡ stored buffer.old at (links_bytes (take used links)) }
-{
-    let mut i = 0;
-    while i < used {
-        octets::put::put_le(buffer, at + 5 * i, 5, link_number(links[i]));
-        i += 1;
-    }
 }
 
 // What stands before the links, as one number of seven bytes: descriptor, slotframe count, handle, size, number of links.
@@ -119,15 +112,10 @@ fn put_slotframe(buffer: &mut [u8], at: usize, slotframe: Slotframe)
     requires { at < 2 ^ 63 + 128 }
     ensures { buffer.new ≡ stored buffer.old at (slotframe_bytes slotframe) }
 {
-    let links = slotframe.links;
+    let used = eb_limits::sizes::at_most_16(slotframe.count);
     let head = head_number(slotframe.handle, slotframe.size, slotframe.count);
     octets::put::put_le(buffer, at, 7, head);
-    put_links(
-        buffer,
-        at + 7,
-        links,
-        eb_limits::sizes::at_most_16(slotframe.count),
-    );
+    put_each(buffer, at + 7, 5, &slotframe.links[..used], link_number);
 }
 
 // The start of the MLME group: descriptor, synchronization, timeslot.
@@ -160,7 +148,7 @@ fn put_group_rest(buffer: &mut [u8], at: usize, hopping: u8, slotframe: Slotfram
     put_slotframe(buffer, at + 3, slotframe);
 }
 
-// The MLME group.
+// The MLME group. Its four parts are given one by one, since a record has more than they are.
 pub fn put_group(
     buffer: &mut [u8],
     at: usize,

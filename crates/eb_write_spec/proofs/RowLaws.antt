@@ -1,11 +1,10 @@
--- Parts put in a row are one part, and a list put entry by entry is the whole list. Assumes nothing.
-use Prim.Native.Nat.{ℕ, zero, suc, ◌+◌, ◌*◌, ◌/◌, ◌%◌, ◌^◌, ◌<◌, ◌≤◌}
+-- Parts put in a row are one part, and so are two numbers put as one. Assumes nothing.
+use Prim.Native.Nat.{ℕ, zero, suc, ◌+◌, ◌*◌, ◌/◌, ◌%◌, ◌^◌, ◌<◌}
 use mathlib.Core.Path.{◌≡◌, refl, sym, ◌∙◌, ap}
 use mathlib.Core.List.{List, [], ◌∷◌, ◌++◌, append-nil}
 use native.Mathlib.Nat.{mul_assoc, pow-succ'}
 use native.Mathlib.Omega.{arith}
-use lib.ListN.{length, get_or, take, drop, length-take, drop_of_length-le}
-use lib.Seq.{drop-cons, get_or-take}
+use lib.ListN.{length}
 use Rattle.octets_spec.specs.Number.{le_bytes, stored}
 use Rattle.octets_spec.proofs.PutLaws.{sets_append}
 
@@ -24,26 +23,6 @@ three s at xs ys zs t u v n m first long second wide third =
 pub nothing : (s : List ℕ) (at : ℕ) → s ≡ stored s at []
 unfolding stored
 nothing s at = refl
-
--- ---- a list put entry by entry, each in so many bytes: what is left gives what the whole gives
-module _ {A : Type 0} (one : A → List ℕ) (all : List A → List ℕ) (width : ℕ) (none : all [] ≡ []) (more : (x : A) (xs : List A) → all (x ∷ xs) ≡ one x ++ all xs) (wide : (x : A) → length (one x) ≡ width) (xs : List A) (n : ℕ) (s : List ℕ) (at : ℕ) where
-  pub run_start : stored s (at + width * 0) (all (drop 0 (take n xs))) ≡ stored s at (all (take n xs))
-  run_start = let offset : at + width * 0 ≡ at = omega arith in rw offset
-
-  module _ (whole : List ℕ) (i : ℕ) (left : stored s (at + width * i) (all (drop i (take n xs))) ≡ whole) where
-    pub run_next : (size : ℕ) (d : A) (t : List ℕ) → length xs ≡ size → n ≤ size → i < n → t ≡ stored s (at + width * i) (one (get_or xs i d)) → stored t (at + width * (i + 1)) (all (drop (i + 1) (take n xs))) ≡ whole
-    run_next size d t long short within put =
-        let there : i < length (take n xs) = omega (arith, length-take n xs) in
-        let after : i + 1 ≡ suc i = omega arith in
-        let cons : drop i (take n xs) ≡ get_or xs i d ∷ drop (i + 1) (take n xs) = drop-cons (take n xs) i d there ∙ rw (get_or-take n xs i d within, after) in
-        let offset : at + width * (i + 1) ≡ at + width * i + width = omega arith in
-        let all_of_lem : all (drop i (take n xs)) ≡ one (get_or xs i d) ++ all (drop (i + 1) (take n xs)) = ap all cons ∙ more (get_or xs i d) (drop (i + 1) (take n xs)) in
-        rw offset (two s (at + width * i) (one (get_or xs i d)) (all (drop (i + 1) (take n xs))) t width put (wide (get_or xs i d)) _ refl ∙ (rw all_of_lem at left))
-
-    pub run_end : i ≤ n → n ≤ i → s ≡ whole
-    run_end before over =
-        let same : drop i (take n xs) ≡ [] = drop_of_length-le (take n xs) {i = i} (omega (arith, length-take n xs)) in
-        nothing s (at + width * i) ∙ (rw (same, none) at left)
 
 -- ---- two numbers put as one: the second stands above the bytes of the first
 pub le_joined : (v w a b : ℕ) → a < 256 ^ v → le_bytes (v + w) (a + 256 ^ v * b) ≡ le_bytes v a ++ le_bytes w b

@@ -1,6 +1,5 @@
 pub mod Frame
 pub mod Limits
-pub mod Range
 pub mod Write
 pub mod Form
 pub mod Claims

@@ -1,8 +1,9 @@
 -- Writing: the checks in their order, the answer, and what the lent buffer holds afterwards (docs/RULES.md, Writing): of any record, by whether
 -- it is within its limits and by its frame, and so of a beacon. Assumes nothing.
-use Rattle.std.specs.Prelude.{ℕ, Bool, List, ◌++◌, length, drop}
+use Rattle.std.specs.Prelude.{ℕ, Bool, List, ◌++◌, length, drop, Result, Ok, Err}
 use Rattle.octets_spec.specs.Choice.{if_off, if_lt, if_eq}
-use Rattle.refusal.specs.Refusal.{done, frame_too_long, out_of_limits, buffer_too_short}
+use Rattle.refusal.specs.declared.Refusal.{Refusal}
+use Rattle.refusal.specs.Refusal.{done, frame_too_long, out_of_limits, buffer_too_short, number_of}
 use Rattle.eb_record_spec.specs.declared.Beacon.{Beacon}
 use Rattle.eb_write_spec.specs.Frame.{frame_of}
 use Rattle.eb_write_spec.specs.Limits.{fits}
@@ -23,6 +24,11 @@ answer_for within frame buffer = record { number = number_for within frame buffe
 -- the buffer afterwards: the frame at its start and the rest as it was, or as a whole as it was
 unfoldable pub buffer_for : Bool → List ℕ → List ℕ → List ℕ
 buffer_for within frame buffer = if_eq (number_for within frame (length buffer)) done (frame ++ drop (length frame) buffer) buffer
+
+-- what a call of writing answers, by its number and the frame's length, as C has it
+abbrev pub written_of : Result ℕ Refusal → Written
+written_of (Ok bytes) = record { number = done; length = bytes }
+written_of (Err refusal) = record { number = number_of refusal; length = 0 }
 
 -- ---- a beacon
 -- the number

@@ -3,10 +3,32 @@
 // with the laws that the crates above share. The crate `eb_write` does it.
 #![tactic(auto)]
 
-// The answer of a call: its number and, if the frame was written, its length, else 0.
+ghost use Rattle.std.specs.Prelude.{◌≡◌};
+ghost use Rattle.eb_write_spec.specs.Write.{written_of};
+
+use refusal::{DONE, Refusal};
+
+// The answer of a call as C has it: its number and, if the frame was written, its length, else 0.
 #[repr(C)]
 #[derive(Clone, Copy)]
 pub struct Written {
     pub number: u8,
     pub length: usize,
+}
+
+impl From<Result<usize, Refusal>> for Written {
+    ghost from_gives = { λ answer written. written ≡ written_of answer };
+
+    fn from(answer: Result<usize, Refusal>) -> Written {
+        match answer {
+            Ok(length) => Written {
+                number: DONE,
+                length,
+            },
+            Err(refusal) => Written {
+                number: refusal.number(),
+                length: 0,
+            },
+        }
+    }
 }

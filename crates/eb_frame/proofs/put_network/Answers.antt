@@ -1,13 +1,14 @@
 -- `eb_frame::put_network` meets its contract. Assumes nothing.
-use Rattle.eb_frame.proofs.JoiningLaws.{bytes_next, joinings}
+use Rattle.eb_write_spec.proofs.RowLaws.{nothing}
+use Rattle.eb_frame.proofs.JoiningLaws.{bytes_next, bytes_end}
 use borrow.Author.Rules.{rules}
 use Rattle.eb_frame.proofs.put_network.Goals as goal
 
 pub loop-i-init : goal.loop-i-init
-loop-i-init c = search (rules, joinings)
+loop-i-init c = nothing c.args.buffer.now c.args.at
 
 pub loop-i-preserved : goal.loop-i-preserved
-loop-i-preserved c = (search rules, search rules, search rules, bytes_next _ _ _ _ _ _ c.loop-i.invariant.3 16 _ _ c.loop-i.invariant.2 c.requires.0 c.loop-i-test.true c.wide.ensures.0 c.wide.ensures.1 c.put_le.ensures.buffer)
+loop-i-preserved c = bytes_next _ _ _ _ _ c.loop-i.invariant _ _ c.loop-i-test.true c.from.ensures (search rules) c.put_le.ensures.buffer
 
 pub returns : goal.returns
-returns c = search (rules, joinings)
+returns c = bytes_end _ _ _ _ _ c.loop-i.invariant c.loop-i-test.false
