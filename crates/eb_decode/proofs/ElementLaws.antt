@@ -2,19 +2,38 @@
 use Prim.Native.Nat.{ℕ, zero, suc, ◌+◌, ◌-◌, ◌*◌, ◌/◌, ◌%◌, ◌<◌, ◌≤◌, min}
 use mathlib.Core.Path.{◌≡◌, refl, ◌∙◌}
 use mathlib.Core.Bool.{true}
-use mathlib.Core.List.{List}
+use mathlib.Core.List.{List, ◌++◌}
 use mathlib.Core.Logic.{inl, inr}
 use native.Mathlib.Omega.{arith}
-use lib.Dec.{lit≤}
-use lib.ListN.{length, get_or}
+use mir.Val.{bool_byte}
+use lib.Dec.{eqb}
+use lib.ListN.{length, get_or, take, drop, replicate}
+use Rattle.std.proofs.Math.Seq.{take-suc}
+use Rattle.std.proofs.lemmas.List.{length-drop, get_or-drop, drop-replicate}
 use Rattle.octets_spec.specs.Choice.{if_eq}
 use Rattle.octets_spec.specs.Number.{le_at, be_at}
-use Rattle.octets_spec.specs.Counted.{counted}
-use Rattle.octets_spec.proofs.ChoiceLaws.{if_ge, if_eq_lem, if_ne_lem, either_eq, choices}
+use Rattle.octets_spec.specs.Counted.{counted, padded}
+use Rattle.octets_spec.proofs.ChoiceLaws.{if_ge, if_eq_lem, if_ne_lem, choices}
 use Rattle.octets_spec.proofs.CountedLaws.{filling}
 use Rattle.eb_read_spec.specs.Decode.{timing_at, template_at}
 use Rattle.eb_read_spec.proofs.DecodeLaws.{synchronizes, timing_two, template_bare, links_at, slotframe_is, network_from, joining_absent, joining_is}
 use Rattle.eb_read_spec.specs.Inside.{TimeslotLength, JoiningInside}
+
+-- ---- the bytes of a part of a list, in an array
+module _ (s : List ℕ) (at skip : ℕ) where
+  bytes_counted : (size : ℕ) → at + (skip + size) ≤ length s → take size (drop (at + skip) s) ≡ counted (λ i. get_or s (at + (skip + i)) 0) size
+  unfolding counted
+  bytes_counted zero h = refl
+  bytes_counted (suc size) h =
+      let offset : at + skip + size ≡ at + (skip + size) = omega arith in
+      rw (take-suc (drop (at + skip) s) size 0 (omega (arith, length-drop (at + skip) s)), bytes_counted size (omega arith), get_or-drop (at + skip) s size 0, offset) refl
+
+  pub network_padded : (all : List ℕ) (size : ℕ) → size ≤ 16 → at + (skip + size) ≤ length s → all ≡ take (at + skip + size - (at + skip)) (drop (at + skip) s) → all ++ drop size (replicate 16 0) ≡ padded (λ i. get_or s (at + (skip + i)) 0) 0 16 size
+  unfolding padded
+  network_padded all size few inside e =
+      let within : min size 16 ≡ size = omega arith in
+      let some : at + skip + size - (at + skip) ≡ size = omega arith in
+      rw (e, some, within, drop-replicate {X = ℕ} size 16 0, bytes_counted size inside) refl
 
 -- ---- timings
 module _ (s : List ℕ) (at wide k r : ℕ) (after : 10 ≤ k) where
@@ -39,21 +58,16 @@ module _ (s : List ℕ) (at to : ℕ) where
   pub timeslot_starts : to ≤ length s → TimeslotLength (to - at) → at < length s
   timeslot_starts h sizes = omega (arith, timeslot_some sizes)
 
-  module _ (wide : ℕ) (timed : to - at ≡ 1 → ⊥) (w : wide ≡ if_eq (to - at) 27 1 0) where
-    pub timings_width : TimeslotLength (to - at) → wide ≤ 1
-    unfolding if_eq
-    timings_width sizes = rw w (either_eq (λ n. n ≤ 1) 1 0 (lit≤ tt) (lit≤ tt) (to - at) 27)
-
-    pub timings_inside : TimeslotLength (to - at) → to ≤ length s → at + (25 + 2 * wide) ≤ length s
-    unfolding if_eq
-    timings_inside (inl e) fits = let narrow : wide ≡ 0 = w ∙ rw e refl in omega arith
-    timings_inside (inr (inl e)) fits = let wider : wide ≡ 1 = w ∙ rw e refl in omega arith
+  module _ (timed : to - at ≡ 1 → ⊥) where
+    pub timings_inside : TimeslotLength (to - at) → to ≤ length s → at + (25 + 2 * bool_byte (eqb (to - at) 27)) ≤ length s
+    timings_inside (inl e) fits = rw e (omega arith)
+    timings_inside (inr (inl e)) fits = rw e (omega arith)
     timings_inside (inr (inr e)) fits = absurd (timed e)
 
-    pub template_timed : (id : ℕ) (all : List ℕ) → id ≡ get_or s at 0 → TimeslotLength (to - at) → all ≡ counted (timing_at s at (2 + wide)) 12 → record { id = id; timed = true; timings = all } ≡ template_at s at (to - at)
+    pub template_timed : (id : ℕ) (all : List ℕ) → id ≡ get_or s at 0 → TimeslotLength (to - at) → all ≡ counted (timing_at s at (2 + bool_byte (eqb (to - at) 27))) 12 → record { id = id; timed = true; timings = all } ≡ template_at s at (to - at)
     unfolding template_at if_eq
-    template_timed id all i (inl e) f = rw (i, f, w, e) refl
-    template_timed id all i (inr (inl e)) f = rw (i, f, w, e) refl
+    template_timed id all i (inl e) f = rw (i, f, e) refl
+    template_timed id all i (inr (inl e)) f = rw (i, f, e) refl
     template_timed id all i (inr (inr e)) f = absurd (timed e)
 
 -- ---- joining information
@@ -71,4 +85,4 @@ module _ (s : List ℕ) (at to : ℕ) where
   pub joining_short : (word : ℕ) → JoiningInside s at to → word / 1073741824 ≡ get_or s at 0 / 64 → let size : ℕ = to - at - (4 + 8 * (word / 1073741824 % 2)) in size ≡ min size 16
   joining_short word inside high = omega (arith, inside.most)
 
-pub ruleset elements = (choices, filling, synchronizes, timing_two, timing_ten, timing_eleven, timeslot_ordered, timeslot_starts, timings_width, timings_inside, template_bare, template_timed, links_at, slotframe_is, joining_absent, proxy_is, joining_there, network_from, joining_short, joining_is)
+pub ruleset elements = (choices, filling, synchronizes, timing_two, timing_ten, timing_eleven, timeslot_ordered, timeslot_starts, timings_inside, template_bare, template_timed, links_at, slotframe_is, joining_absent, proxy_is, joining_there, network_from, joining_short, joining_is)

@@ -2,7 +2,8 @@
 ghost use Rattle.std.specs.Prelude.{◌≡◌, true, ◌&&◌, ◌||◌, ◌^◌, ltb, eqb};
 ghost use Rattle.eb_decode.specs.Header.{header_form};
 
-// The sequence number, which is 0 where there is none, the PAN, and the source with its kind.
+// The sequence number, which is 0 where there is none, the PAN, and the source with its kind: marks beside numbers, as `BeaconForm`, which is
+// C's, has them.
 #[derive(Clone, Copy)]
 pub(crate) struct HeaderForm {
     pub sequenced: bool,

@@ -9,24 +9,15 @@ const PROXIED: u64 = 0x40;
 fn bytes_inside(s: &[u8], at: usize, size: usize) -> bool
     ensures { result ≡ bytes_inside s.now at size }
 {
-    if s.len() < at {
-        return false;
-    }
-    if s.len() - at < size {
-        return false;
-    }
-    true
+    at <= s.len() && size <= s.len() - at
 }
 
 // Whether a timeslot element that goes from an offset to another lies inside the frame.
 fn timeslot_inside(s: &[u8], at: usize, to: usize) -> bool
     ensures { result ≡ timeslot_inside s.now at to }
 {
-    if s.len() < to {
-        return false;
-    }
-    let size = octets::span(at, to);
-    (size == 25) | ((size == 27) | (size == 1))
+    let size = to.saturating_sub(at);
+    (to <= s.len()) & ((size == 25) | ((size == 27) | (size == 1)))
 }
 
 // Whether a slotframe and link element lies inside the frame with all its links.
@@ -37,10 +28,7 @@ fn slotframe_inside(s: &[u8], at: usize) -> bool
         return false;
     }
     let links = octets::get::byte(s, at + 4) as usize;
-    if 16 < links {
-        return false;
-    }
-    bytes_inside(s, at, 5 + 5 * links)
+    links <= 16 && bytes_inside(s, at, 5 + 5 * links)
 }
 
 // Whether joining information that goes from an offset to another lies inside the frame.
@@ -50,15 +38,9 @@ fn joining_inside(s: &[u8], at: usize, to: usize) -> bool
     if at == 0 {
         return true;
     }
-    if s.len() < to {
-        return false;
-    }
-    let size = octets::span(at, to);
+    let size = to.saturating_sub(at);
     let least = 4 + 8 * (octets::get::byte(s, at) / PROXIED % 2) as usize;
-    if size < least {
-        return false;
-    }
-    size < least + 17
+    (to <= s.len()) & ((least <= size) & (size <= least + 16))
 }
 
 // Whether all elements that a walk noted lie inside the frame.

@@ -1,6 +1,6 @@
 // The decoder: from the bytes of a frame and the offsets that the walk noted to the record, in the form without enums. One test in front
 // says whether the noted elements lie inside the frame; behind it everything is read without a test.
-#![tactic(auto)]
+#![tactic(auto, using(crate::proofs::ElementLaws::elements, crate::proofs::FixedLaws::fixing, crate::proofs::FormLaws::forms, crate::proofs::HeaderLaws::heading, eb_read_spec::proofs::InsideLaws::inside))]
 
 ghost use Rattle.std.specs.Prelude.{◌≡◌, true};
 ghost use Rattle.eb_record_spec.specs.Form.{is_beacon};
@@ -28,7 +28,7 @@ pub fn decode(s: &[u8], walk: ie_walk_spec::Walk) -> BeaconForm
             source: header.source,
             synchronization: elements::synchronization_at(s, walk.synchronization),
             timeslot: elements::template_at(s, walk.timeslot, walk.timeslotend),
-            hopping: fixed::byte(s, walk.hopping) as u8,
+            hopping: s[walk.hopping],
             slotframe: elements::slotframe_at(s, walk.slotframe),
             joining: elements::joining_at(s, walk.joining, walk.joiningend),
         };

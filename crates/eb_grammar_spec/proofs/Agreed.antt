@@ -19,8 +19,8 @@ use Rattle.eb_read_spec.proofs.DecodeLaws.{decodes, joining_absent}
 use Rattle.eb_read_spec.specs.Claims.{Bytes}
 use Rattle.eb_read_spec.specs.Read.{walk_start, skipped_before, behind_header, elements_walk, missing, walk_number, examined, read_frame}
 use Rattle.eb_read_spec.specs.Policy.{mac_header_fault}
-use Rattle.eb_read_spec.specs.declared.Examination.{Examination}
-use Rattle.eb_read_spec.specs.declared.ReadAnswer.{ReadAnswer}
+use Rattle.eb_read_spec.specs.Read.{Examination}
+use Rattle.eb_read_spec.specs.Read.{ReadAnswer}
 use Rattle.eb_read_spec.proofs.Each.{each_eq}
 use Rattle.eb_read_spec.proofs.Claimed.{number_of}
 use Rattle.eb_read_spec.proofs.Accepted.{Required, accepted_required, accepted_decoded}

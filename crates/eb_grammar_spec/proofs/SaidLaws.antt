@@ -11,7 +11,7 @@ use Rattle.eb_record_spec.specs.Form.{form_of}
 use Rattle.eb_read_spec.specs.Claims.{Bytes}
 use Rattle.eb_read_spec.specs.Read.{read_frame}
 use Rattle.eb_read_spec.specs.Form.{form_reading}
-use Rattle.eb_read_spec.specs.declared.ReadAnswer.{ReadAnswer}
+use Rattle.eb_read_spec.specs.Read.{ReadAnswer}
 use Rattle.eb_read_spec.specs.declared.FormReading.{FormReading}
 use Rattle.eb_grammar_spec.specs.Grammar.{Accepts}
 use Rattle.eb_grammar_spec.specs.Claims.{AnswerAsSaid, FormAsSaid, ReadAsSaid, FormReadAsSaid}

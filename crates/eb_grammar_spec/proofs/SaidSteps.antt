@@ -6,7 +6,7 @@ use mathlib.Core.Logic.{◌⊎◌, inl, inr}
 use native.Mathlib.Omega.{arith}
 use lib.ListN.{get_or}
 use Rattle.octets_spec.specs.Number.{le_at}
-use Rattle.refusal.specs.Refusal.{cut, shape}
+use Rattle.refusal.specs.Refusal.{cut, shape, number_of}
 use Rattle.ie_step_spec.specs.Header.{header_word, header_at}
 use Rattle.ie_step_spec.specs.Payload.{group_of, outer_word, outer_at, inner_word, inner_at}
 use Rattle.ie_step_spec.specs.declared.HeaderStep.{HeaderStep}
@@ -32,7 +32,7 @@ pub record Lies (s : List ℕ) (at end from to : ℕ) (Says : ℕ → ℕ → �
 abbrev pub InnerSays : InnerStep → List ℕ → ℕ → ℕ → Type 0
 InnerSays inner.Back s at end = end ≤ at
 InnerSays (inner.Part kind from next) s at end = Lies s at end from next (λ a b size. SubDescriptor a b size kind)
-InnerSays (inner.Fault number) s at end = number ≡ 0 → ⊥
+InnerSays (inner.Fault refusal) s at end = number_of refusal ≡ 0 → ⊥
 
 -- an IETF element: its subtype stands before its content
 abbrev pub Ietf : List ℕ → ℕ → ℕ → ℕ → ℕ → Type 0
@@ -47,13 +47,13 @@ OuterSays outer.End s at end = (end ≤ at) ⊎ ((at + 2 ≤ end) × Descriptor 
 OuterSays (outer.Group from to) s at end = Lies s at end from to (λ a b size. Descriptor 11 a b size 1 1)
 OuterSays (outer.Joining from to) s at end = (from ≡ at + 2 + 1) × Lies s at end (at + 2) to (λ a b size. Ietf s at a b size) × (get_or s (at + 2) 0 ≡ 2)
 OuterSays (outer.Skip to) s at end = Lies s at end (at + 2) to (λ a b size. Skipped s at a b size)
-OuterSays (outer.Fault number) s at end = number ≡ 0 → ⊥
+OuterSays (outer.Fault refusal) s at end = number_of refusal ≡ 0 → ⊥
 
 abbrev pub HeaderSays : HeaderStep → List ℕ → ℕ → ℕ → Type 0
 HeaderSays header.End s at end = (end ≤ at) ⊎ ((at + 2 ≤ end) × Descriptor 7 (get_or s at 0) (get_or s (at + 1) 0) 0 127 0)
 HeaderSays (header.Payload from) s at end = (from ≡ at + 2) × (from ≤ end) × Descriptor 7 (get_or s at 0) (get_or s (at + 1) 0) 0 126 0
 HeaderSays (header.Element id from to) s at end = Lies s at end from to (λ a b size. Descriptor 7 a b size id 0 × (id ≡ 126 → ⊥) × (id ≡ 127 → ⊥))
-HeaderSays (header.Fault number) s at end = number ≡ 0 → ⊥
+HeaderSays (header.Fault refusal) s at end = number_of refusal ≡ 0 → ⊥
 
 was_cut : cut ≡ 0 → ⊥
 was_cut e = omega arith

@@ -125,7 +125,7 @@ module _ (s : List ℕ) (bytes : Bytes s) where
                 list = rw (part_element s at l.size to end l.ends l.fits) (payload_element (get_or s at 0) (get_or s (at + 1) 0) group (part s (at + 2) l.size) (rw (length_part s (at + 2) l.size) d) not-15 (other_group not_1 not_5) g.list);
                 notes = g.notes;
               }
-      outer_step (outer.Fault number) e k = rw (e, outer_go) (λ good. absurd (k good))
+      outer_step (outer.Fault refusal) e k = rw (e, outer_go) (λ good. absurd (k good))
 
     module _ (at to end : ℕ) (w : Walk) (found : List Element) (low : at ≤ to) (fit : to ≤ end) (high : end ≤ length s) (enough : 2 * (end - at) + 1 < suc bound) (n : Notes s w found) where
       group_step : (o : InnerStep) → inner_at s at to ≡ o → InnerSays o s at to → (group_go (suc bound) s at to end w).fault ≡ 0 → GroupGives at to end found (group_go (suc bound) s at to end w)
@@ -154,7 +154,7 @@ module _ (s : List ℕ) (bytes : Bytes s) where
             notes = rw (append_snoc found x (g.inside ++ g.more)) at g.notes;
           })
           (λ bad good. absurd (bad good)))
-      group_step (inner.Fault number) e k = rw (e, group_go) (λ good. absurd (k good))
+      group_step (inner.Fault refusal) e k = rw (e, group_go) (λ good. absurd (k good))
 
   lists_sound : (bound : ℕ) → Outers bound × Groups bound
   lists_sound zero = (λ at end w found low high enough n good. absurd (not-suc-le-zero enough), λ at to end w found low fit high enough n good. absurd (not-suc-le-zero enough))
@@ -207,7 +207,7 @@ module _ (s : List ℕ) (bytes : Bytes s) where
         splits = part_element s at l.size to end l.ends l.fits
             ∙ ap (λ (xs : List ℕ). get_or s at 0 ∷ get_or s (at + 1) 0 ∷ xs) (ap (λ (xs : List ℕ). c ++ xs) g.splits ∙ sym (append_assoc c g.header _));
       })
-  header_step bound at end go (header.Fault number) e k = rw (e, header_go) (λ some. absurd (some refl))
+  header_step bound at end go (header.Fault refusal) e k = rw (e, header_go) (λ some. absurd (some refl))
 
   header_go_lem : (bound at end : ℕ) → ((header_go bound s at end).payload ≡ 0 → ⊥) → HeaderGives at end (header_go bound s at end)
   unfolding header_go

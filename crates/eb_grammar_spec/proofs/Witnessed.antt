@@ -21,7 +21,7 @@ use Rattle.mac_header_spec.specs.declared.SequenceNumber.TheVariants.{Absent}
 use Rattle.mac_header_spec.specs.declared.Address.TheVariants.{Short}
 use Rattle.eb_read_spec.specs.Claims.{Bytes}
 use Rattle.eb_read_spec.specs.Witnesses.{shortest, shortest_record}
-use Rattle.eb_read_spec.specs.declared.ReadAnswer.{ReadAnswer}
+use Rattle.eb_read_spec.specs.Read.{ReadAnswer}
 use Rattle.eb_read_spec.proofs.Witnessed.{bytes, shortest_is_read, shortest_bytes}
 use Rattle.eb_grammar_spec.specs.Witnesses.{ShortestIsOfTheGrammar, AnUnknownElementIsPutIn, manifold, manifold_record, ManifoldIsOfTheGrammar}
 use Rattle.eb_grammar_spec.specs.Row.{le}

@@ -8,6 +8,12 @@ use eb_read_spec::Span;
 // The P flag of joining information, in its first four bytes: the address of the join proxy stands behind them.
 const PROXIED: u64 = 0x4000_0000;
 
+// No bytes, at the frame's start.
+const NO_BYTES: Span = Span {
+    offset: 0,
+    length: 0,
+};
+
 // How many bytes of joining information stand before its network ID.
 fn network_offset(s: &[u8], at: usize) -> usize
     ensures { (result ≡ network_offset s.now at) × (result ≤ 12) }
@@ -25,10 +31,7 @@ fn span_from(from: usize, to: usize) -> Span
             length: to - from,
         };
     }
-    Span {
-        offset: 0,
-        length: 0,
-    }
+    NO_BYTES
 }
 
 // Where the network ID of a frame lies: 0 and 0 if the frame is refused, or has none, or one of no bytes.
@@ -36,13 +39,12 @@ pub fn network_span(s: &[u8]) -> Span
     ensures answer { result ≡ network_span s.now }
     ensures inside { NetworkLiesInside }
 {
-    let walk = eb_examine::accepted_walk(s);
+    let Ok(walk) = eb_examine::accepted_walk(s) else {
+        return NO_BYTES;
+    };
     let at = walk.joining;
     if at == 0 {
-        return Span {
-            offset: 0,
-            length: 0,
-        };
+        return NO_BYTES;
     }
     span_from(at + network_offset(s, at), walk.joiningend)
 }

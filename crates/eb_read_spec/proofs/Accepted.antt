@@ -13,8 +13,8 @@ use Rattle.eb_read_spec.specs.Decode.{synchronization_at, link_at, slotframe_at,
 use Rattle.eb_read_spec.specs.Read.{missing, walk_number, examined, read_frame}
 use Rattle.eb_read_spec.specs.Claims.{AcceptedMayBeDecidedOn}
 use Rattle.eb_read_spec.specs.Inside.{TimeslotLength, JoiningInside, ElementsInside, AcceptedLiesInside}
-use Rattle.eb_read_spec.specs.declared.Examination.{Examination}
-use Rattle.eb_read_spec.specs.declared.ReadAnswer.{ReadAnswer}
+use Rattle.eb_read_spec.specs.Read.{Examination}
+use Rattle.eb_read_spec.specs.Read.{ReadAnswer}
 use Rattle.eb_read_spec.proofs.Claimed.{number_of}
 use Rattle.eb_read_spec.proofs.Each.{each_eq}
 use Rattle.eb_read_spec.proofs.InsideLaws.{facts_inside}

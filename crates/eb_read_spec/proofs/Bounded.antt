@@ -27,7 +27,7 @@ unfolding header_go
 header_step one other rest s at end h k header.End e w = rw (header_go, e)
 header_step one other rest s at end h k (header.Payload from) e w = rw (header_go, e)
 header_step one other rest s at end h k (header.Element id from to) e w = rw (header_go, e) (ap (in_front _) (rest other s to end (omega (arith, w)) (omega (arith, w))))
-header_step one other rest s at end h k (header.Fault number) e w = rw (header_go, e)
+header_step one other rest s at end h k (header.Fault refusal) e w = rw (header_go, e)
 
 header_same : (one : ℕ) → HeaderSame one
 header_same zero other s at end h k = absurd (omega arith)
@@ -54,14 +54,14 @@ module _ (one other : ℕ) (outers : OuterSame one) (groups : GroupSame one) (s 
   outer_step end walk h k (outer.Joining from to) e w =
       rw (outer_go, e) (goes_on (part_taken s walk 258 from to at) _ _ (outers other s to end (part_taken s walk 258 from to at) (omega (arith, w)) (omega (arith, w))))
   outer_step end walk h k (outer.Skip to) e w = rw (outer_go, e) (outers other s to end (skip_one walk) (omega (arith, w)) (omega (arith, w)))
-  outer_step end walk h k (outer.Fault number) e w = rw (outer_go, e)
+  outer_step end walk h k (outer.Fault refusal) e w = rw (outer_go, e)
 
   group_step : (to end : ℕ) (walk : Walk) → at ≤ to → to ≤ end → 2 * (end - at) + 1 < suc one → 2 * (end - at) + 1 < suc other → (o : InnerStep) → inner_at s at to ≡ o → inner_within o at to → group_go (suc one) s at to end walk ≡ group_go (suc other) s at to end walk
   unfolding group_go
   group_step to end walk a b h k inner.Back e w = rw (group_go, e) (outers other s to end walk (omega arith) (omega arith))
   group_step to end walk a b h k (inner.Part kind from next) e w =
       rw (group_go, e) (goes_on (part_taken s walk kind from next at) _ _ (groups other s next to end (part_taken s walk kind from next at) w.2 b (omega (arith, w)) (omega (arith, w))))
-  group_step to end walk a b h k (inner.Fault number) e w = rw (group_go, e)
+  group_step to end walk a b h k (inner.Fault refusal) e w = rw (group_go, e)
 
 both_same : (one : ℕ) → OuterSame one × GroupSame one
 both_same zero = (λ other s at end walk h k. absurd (omega arith), λ other s at to end walk a b h k. absurd (omega arith))

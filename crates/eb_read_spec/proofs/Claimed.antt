@@ -11,7 +11,7 @@ use Rattle.mac_header_spec.specs.Fields.{mac_header_of}
 use Rattle.eb_read_spec.specs.Policy.{mac_header_fault}
 use Rattle.eb_read_spec.specs.Read.{examined, read_frame}
 use Rattle.eb_read_spec.specs.Claims.{NumbersTo8, OneIsTheLength}
-use Rattle.eb_read_spec.specs.declared.ReadAnswer.{ReadAnswer}
+use Rattle.eb_read_spec.specs.Read.{ReadAnswer}
 use Rattle.eb_read_spec.proofs.PolicyLaws.{too_long}
 use Rattle.eb_read_spec.proofs.Numbers.{at_most_8, not_1, examined_small}
 

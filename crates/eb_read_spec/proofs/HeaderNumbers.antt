@@ -11,7 +11,7 @@ use Rattle.mac_header_spec.specs.declared.Control.{Control}
 use Rattle.eb_read_spec.specs.Policy.{form_fault, policy_fault, mac_header_fault}
 use Rattle.eb_read_spec.specs.Claims.{AnotherDestination, FiveIsTheAddressing, FourIsSecurity, HasControl, IsAddressed, IsBeacon, ThreeIsTheType}
 use Rattle.eb_read_spec.specs.Read.{examined, read_frame}
-use Rattle.eb_read_spec.specs.declared.Examination.{Examination}
+use Rattle.eb_read_spec.specs.Read.{Examination}
 use Rattle.eb_read_spec.proofs.PolicyLaws.{bad_form, no_broadcast, no_control, too_long}
 use Rattle.eb_read_spec.proofs.Claimed.{number_of}
 use Rattle.eb_read_spec.proofs.Each.{each_eq}

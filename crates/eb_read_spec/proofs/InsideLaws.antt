@@ -6,8 +6,8 @@ use mathlib.Core.Bool.{Bool, true, false, ◌&&◌, ◌||◌, and-eq-true_iff, f
 use mathlib.Core.List.{List}
 use mathlib.Core.Logic.{inl, inr}
 use native.Mathlib.Omega.{arith}
-use borrow.Author.Tests.{lt-ltb, le-ltb, eqb-true}
-use lib.Dec.{eqb, ltb}
+use borrow.Author.Tests.{lt-leb, le-leb, eqb-true}
+use lib.Dec.{eqb, leb}
 use lib.ListN.{length, get_or}
 use Rattle.octets_spec.specs.Choice.{if_lt}
 use Rattle.octets_spec.proofs.ChoiceLaws.{if_lt_lem, if_ge, if_eq_lem, if_ne_lem, was_ge, by_test, either_lt, choices}
@@ -93,63 +93,49 @@ unfolding lies_inside
 facts_inside s walk h =
     rw (fits_bytes s walk.synchronization 6 h.synchronization, fits_timeslot s walk.timeslot walk.timeslotend h.timeslotend h.timeslot, fits_bytes s walk.hopping 1 (omega (arith, h.hopping)), fits_slotframe s walk.slotframe h.few h.slotframe, fits_joining s walk.joining walk.joiningend h.joining) refl
 
--- ---- the ways out of the test
+-- ---- the test as code makes it
 module _ (s : List ℕ) (at size : ℕ) where
-  pub starts_behind : length s < at → false ≡ bytes_inside s at size
+  pub starts_behind : length s < at → leb at (length s) ≡ bytes_inside s at size
   unfolding bytes_inside
-  starts_behind h = if_lt_lem _ _ _ _ (omega arith) refl
+  starts_behind h = if_lt_lem _ _ _ _ (omega arith) (lt-leb _ _ h)
 
-  pub ends_behind : at ≤ length s → length s - at < size → false ≡ bytes_inside s at size
+  pub starts_inside : at ≤ length s → leb size (length s - at) ≡ bytes_inside s at size
   unfolding bytes_inside
-  ends_behind h k = if_lt_lem _ _ _ _ (omega arith) refl
-
-  pub ends_inside : at ≤ length s → size ≤ length s - at → true ≡ bytes_inside s at size
-  unfolding bytes_inside
-  ends_inside h k = if_ge _ _ _ _ (omega arith) refl
+  starts_inside h = each_lt (λ (r : Bool). leb size (length s - at) ≡ r) _ _ _ _ (λ over. lt-leb _ _ (omega arith)) (λ within. le-leb _ _ (omega arith))
 
 module _ (s : List ℕ) (at : ℕ) where
   pub slotframe_behind : length s < at → false ≡ slotframe_inside s at
-  unfolding slotframe_inside
-  slotframe_behind h = either_lt (λ (r : Bool). false ≡ r) _ _ refl (starts_behind s at _ h) _ _
+  unfolding slotframe_inside bytes_inside
+  slotframe_behind h = either_lt (λ (r : Bool). false ≡ r) _ _ refl (if_lt_lem _ _ _ _ (omega arith) refl) _ _
 
   module _ (links : ℕ) (e : links ≡ get_or s (at + 4) 0) where
-    pub links_many : 16 < links → false ≡ slotframe_inside s at
+    pub links_many : 16 < links → leb links 16 ≡ slotframe_inside s at
     unfolding slotframe_inside
-    links_many h = if_lt_lem _ _ _ _ (omega arith) refl
+    links_many h = if_lt_lem _ _ _ _ (omega arith) (lt-leb _ _ h)
 
     pub links_few : (r : Bool) → links ≤ 16 → r ≡ bytes_inside s at (5 + 5 * links) → r ≡ slotframe_inside s at
     unfolding slotframe_inside
     links_few r h f = if_ge _ _ _ _ (omega arith) (rw e at f)
 
-below : (n most over : ℕ) → over ≡ most + 1 → ltb n over ≡ if_lt most n false true
-below n most over e = each_lt (λ (r : Bool). ltb n over ≡ r) _ _ _ _ (λ more. le-ltb n over (omega arith)) (λ within. lt-ltb n over (omega arith))
+-- at most a number, as a choice
+at_most : (a b : ℕ) (rest : Bool) → leb a b && rest ≡ if_lt b a false rest
+at_most a b rest = each_lt (λ (r : Bool). leb a b && rest ≡ r) _ _ _ _ (λ over. rw (lt-leb a b over) refl) (λ within. rw (le-leb a b within) refl)
 
-module _ (s : List ℕ) (at to : ℕ) where
-  pub timeslot_behind : length s < to → false ≡ timeslot_inside s at to
-  unfolding timeslot_inside
-  timeslot_behind h = if_lt_lem _ _ _ _ h refl
+at_most_last : (a b : ℕ) → leb a b ≡ if_lt b a false true
+at_most_last a b = each_lt (λ (r : Bool). leb a b ≡ r) _ _ _ _ (λ over. lt-leb a b over) (λ within. le-leb a b within)
 
-  pub timeslot_there : (size : ℕ) → to ≤ length s → size ≡ to - at → eqb size 25 || (eqb size 27 || eqb size 1) ≡ timeslot_inside s at to
+module _ (s : List ℕ) (at to size : ℕ) (e : size ≡ to - at) where
+  pub timeslot_there : leb to (length s) && (eqb size 25 || (eqb size 27 || eqb size 1)) ≡ timeslot_inside s at to
   unfolding timeslot_inside is_timeslot_length
-  timeslot_there size h e = if_ge _ _ _ _ h (rw e)
+  timeslot_there = rw e (at_most to (length s) _)
 
-  pub joining_nowhere : at ≡ 0 → true ≡ joining_inside s at to
-  unfolding joining_inside
-  joining_nowhere h = if_eq_lem _ _ _ _ h refl
+  pub joining_there : (byte : ℕ) → (at ≡ 0 → ⊥) → byte ≡ get_or s at 0 → leb to (length s) && (leb (4 + 8 * (byte / 64 % 2)) size && leb size (4 + 8 * (byte / 64 % 2) + 16)) ≡ joining_inside s at to
+  unfolding joining_inside is_joining_length
+  joining_there byte some f = if_ne_lem _ _ _ _ some (rw (e, f, at_most_last (to - at) (4 + 8 * (get_or s at 0 / 64 % 2) + 16), at_most (4 + 8 * (get_or s at 0 / 64 % 2)) (to - at) _) (at_most to (length s) _))
 
-  module _ (some : at ≡ 0 → ⊥) where
-    pub joining_behind : length s < to → false ≡ joining_inside s at to
-    unfolding joining_inside
-    joining_behind h = if_ne_lem _ _ _ _ some (if_lt_lem _ _ _ _ h refl)
-
-    module _ (size byte : ℕ) (h : to ≤ length s) (e : size ≡ to - at) (f : byte ≡ get_or s at 0) where
-      pub joining_short : size < 4 + 8 * (byte / 64 % 2) → false ≡ joining_inside s at to
-      unfolding joining_inside is_joining_length
-      joining_short k = if_ne_lem _ _ _ _ some (if_ge _ _ _ _ h (rw (← e, ← f) (if_lt_lem _ _ _ _ k refl)))
-
-      pub joining_there : 4 + 8 * (byte / 64 % 2) ≤ size → ltb size (4 + 8 * (byte / 64 % 2) + 17) ≡ joining_inside s at to
-      unfolding joining_inside is_joining_length
-      joining_there k = if_ne_lem _ _ _ _ some (if_ge _ _ _ _ h (rw (← e, ← f) (if_ge _ _ _ _ k (below size _ _ (omega arith)))))
+pub joining_nowhere : (s : List ℕ) (at to : ℕ) → at ≡ 0 → true ≡ joining_inside s at to
+unfolding joining_inside
+joining_nowhere s at to h = if_eq_lem _ _ _ _ h refl
 
 -- all of them
 pub all_inside : (s : List ℕ) (walk : Walk) (synchronization timeslot hopping slotframe joining : Bool) → synchronization ≡ bytes_inside s walk.synchronization 6 → timeslot ≡ timeslot_inside s walk.timeslot walk.timeslotend
@@ -158,4 +144,4 @@ pub all_inside : (s : List ℕ) (walk : Walk) (synchronization timeslot hopping 
 unfolding lies_inside
 all_inside s walk synchronization timeslot hopping slotframe joining e f g h k = rw (e, f, g, h, k)
 
-pub ruleset inside = (choices, starts_behind, ends_behind, ends_inside, slotframe_behind, links_many, links_few, timeslot_behind, timeslot_there, joining_nowhere, joining_behind, joining_short, joining_there, all_inside)
+pub ruleset inside = (choices, starts_behind, starts_inside, slotframe_behind, links_many, links_few, timeslot_there, joining_nowhere, joining_there, all_inside)

@@ -4,6 +4,8 @@ use native.Mathlib.Omega.{arith}
 use mathlib.Core.Path.{◌≡◌, refl}
 use mathlib.Core.List.{List}
 use Rattle.octets_spec.proofs.ChoiceLaws.{either_eq}
+use Rattle.refusal.specs.Refusal.{number_of}
+use Rattle.refusal.specs.declared.Refusal.{Refusal}
 use Rattle.ie_step_spec.specs.Payload.{outer_at, outer_within, inner_at, inner_within}
 use Rattle.ie_step_spec.specs.declared.OuterStep.{OuterStep}
 use Rattle.ie_step_spec.specs.declared.OuterStep.TheVariants as outer
@@ -18,8 +20,8 @@ pub record Kept (s : List ℕ) (end : ℕ) (K : ℕ → Walk → Type 0) : Type 
   pub moved : (at to : ℕ) (w : Walk) → at ≤ to → K at w → K to w
   pub skips : (at to : ℕ) (w : Walk) → at < to → K at w → K to (skip_one w)
   pub parts : (at kind from to : ℕ) (w : Walk) → at < from → from ≤ to → to ≤ end → K at w → K to (part_taken s w kind from to at)
-  pub stops : (at number : ℕ) (w : Walk) → outer_at s at end ≡ outer.Fault number → K at w → K at (stopped w number at)
-  pub stops_inside : (at to number : ℕ) (w : Walk) → inner_at s at to ≡ inner.Fault number → K at w → K at (stopped w number at)
+  pub stops : (at : ℕ) (refusal : Refusal) (w : Walk) → outer_at s at end ≡ outer.Fault refusal → K at w → K at (stopped w (number_of refusal) at)
+  pub stops_inside : (at to : ℕ) (refusal : Refusal) (w : Walk) → inner_at s at to ≡ inner.Fault refusal → K at w → K at (stopped w (number_of refusal) at)
 
 module _ (s : List ℕ) (end : ℕ) (K : ℕ → Walk → Type 0) (k : Kept s end K) where
   -- the walk ends at some offset, which is not behind the end if it began before it
@@ -41,7 +43,7 @@ module _ (s : List ℕ) (end : ℕ) (K : ℕ → Walk → Type 0) (k : Kept s en
         let t = k.parts at 258 from to w (omega (arith, b)) b.1 b.2 h in
         rw (e, outer_go) (either_eq (λ (r : Walk). Ends at r) _ _ (let r = outers to _ t in (r.0, λ below. r.1 b.2, r.2)) (to, λ below. b.2, t) _ _)
     outer_step at w h (outer.Skip to) e b = rw (e, outer_go) (let r = outers to (skip_one w) (k.skips at to w (omega (arith, b)) h) in (r.0, λ below. r.1 b.1, r.2))
-    outer_step at w h (outer.Fault number) e b = rw (e, outer_go) (at, λ below. below, k.stops at number w e h)
+    outer_step at w h (outer.Fault refusal) e b = rw (e, outer_go) (at, λ below. below, k.stops at refusal w e h)
 
     group_step : (at to : ℕ) (w : Walk) → at ≤ to → to ≤ end → K at w → (o : InnerStep) → inner_at s at to ≡ o → inner_within o at to → Ends at (group_go (suc bound) s at to end w)
     unfolding group_go
@@ -49,7 +51,7 @@ module _ (s : List ℕ) (end : ℕ) (K : ℕ → Walk → Type 0) (k : Kept s en
     group_step at to w low high h (inner.Part kind from next) e b =
         let t = k.parts at kind from next w b.0 b.1 (omega (arith, b, high)) h in
         rw (e, group_go) (either_eq (λ (r : Walk). Ends at r) _ _ (let r = groups next to _ b.2 high t in (r.0, λ below. r.1 (omega (arith, b, high)), r.2)) (next, λ below. omega (arith, b, high), t) _ _)
-    group_step at to w low high h (inner.Fault number) e b = rw (e, group_go) (at, λ below. below, k.stops_inside at to number w e h)
+    group_step at to w low high h (inner.Fault refusal) e b = rw (e, group_go) (at, λ below. below, k.stops_inside at to refusal w e h)
 
   lists_keep : (bound : ℕ) → Outers bound × Groups bound
   unfolding outer_go group_go

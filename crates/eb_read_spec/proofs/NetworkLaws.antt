@@ -50,6 +50,11 @@ module _ (s : List ℕ) (w : Walk) (e : w ≡ accepted_walk s) where
   unfolding network_span
   network_absent none = each_eq (λ (r : Span). no_span ≡ r) _ _ _ _ (λ good. if_eq_lem _ _ _ _ (rw (of_accepted good) at none) refl) (λ bad. refl)
 
+  -- a frame that is refused has none
+  pub network_refused : w ≡ blank_walk → no_span ≡ network_span s
+  unfolding blank_walk
+  network_refused blank = network_absent (rw blank)
+
   module _ (some : w.joining ≡ 0 → ⊥) where
     accepted : (examined s).number ≡ 0
     unfolding accepted_walk blank_walk

@@ -14,7 +14,7 @@ use Rattle.eb_read_spec.specs.Decode.{decoded, joining_at, network_offset}
 use Rattle.eb_read_spec.specs.Inside.{JoiningInside}
 use Rattle.eb_read_spec.specs.Network.{NetworkIsTheRecords, network_part, network_span, span_from}
 use Rattle.eb_read_spec.specs.Read.{examined, read_frame}
-use Rattle.eb_read_spec.specs.declared.ReadAnswer.{ReadAnswer}
+use Rattle.eb_read_spec.specs.Read.{ReadAnswer}
 use Rattle.eb_read_spec.specs.declared.Span.{Span}
 use Rattle.eb_read_spec.proofs.Accepted.{accepted_lies_inside}
 use Rattle.eb_read_spec.proofs.Bounds.{be_below}

@@ -12,14 +12,14 @@ use Rattle.octets_spec.specs.Number.{le_at}
 use lib.Dec.{eqb}
 use borrow.Author.Tests.{eqb-true, not-false}
 use Rattle.octets_spec.proofs.ChoiceLaws.{by_test, was_ge, was_eq, was_ne, was_on, was_off, either_eq}
-use Rattle.refusal.specs.Refusal.{done, shape, missing_or_twice, out_of_limits}
+use Rattle.refusal.specs.Refusal.{done, shape, missing_or_twice, out_of_limits, number_of}
 use Rattle.ie_verdict_spec.specs.Verdict.{sync_fault, timeslot_fault, hopping_fault, slotframe_shape, slotframe_limits, slotframe_fault, joining_fault, timeslots_fit, slotframe_fault_at, part_fault}
 use Rattle.ie_verdict_spec.specs.declared.Seen.{Seen}
 use Rattle.ie_walk_spec.specs.Walk.{blank_walk, besides, seen_of, skip_one, taken, stopped, part_taken, payload_list}
 use Rattle.ie_walk_spec.specs.declared.Walk.{Walk}
 use Rattle.ie_walk_spec.specs.declared.HeaderListEnd.{HeaderListEnd}
 use Rattle.mac_header_spec.specs.Fields.{offsets_of, mac_header_of}
-use Rattle.eb_read_spec.specs.declared.Examination.{Examination}
+use Rattle.eb_read_spec.specs.Read.{Examination}
 use Rattle.eb_read_spec.specs.Read.{walk_start, skipped_before, behind_header, elements_walk, examined}
 use Rattle.eb_read_spec.proofs.Each.{each_eq, each_eq_2}
 use Rattle.eb_read_spec.proofs.Keeps.{Kept, list_keeps}
@@ -186,8 +186,8 @@ noted_kept s end = record {
   moved = λ at to w low h. h;
   skips = λ at to w low h. skip_noted s end w h;
   parts = λ at kind from to w low le high h. part_noted s end w h kind from to high at;
-  stops = λ at number w e h. stop_noted s end w h number at;
-  stops_inside = λ at to number w e h. stop_noted s end w h number at;
+  stops = λ at refusal w e h. stop_noted s end w h (number_of refusal) at;
+  stops_inside = λ at to refusal w e h. stop_noted s end w h (number_of refusal) at;
 }
 
 pub elements_noted : (s : List ℕ) (at end : ℕ) → Noted s end (elements_walk s at end)

@@ -6,6 +6,7 @@ use mathlib.Core.List.{List}
 use lib.Dec.{T, T_not, leb, eqb, leb→le}
 use lib.ListN.{length}
 use Rattle.octets_spec.proofs.ChoiceLaws.{if_ge, either_on, either_lt, either_eq}
+use Rattle.refusal.specs.Refusal.{number_of}
 use Rattle.mac_header_spec.specs.declared.Control.{Control}
 use Rattle.ie_verdict_spec.specs.Verdict.{once_only, sync_fault, timeslot_fault, hopping_fault, slotframe_shape, slotframe_limits, slotframe_fault, joining_fault, slotframe_fault_at, part_fault}
 use Rattle.ie_verdict_spec.specs.declared.Seen.{Seen}
@@ -22,7 +23,7 @@ use Rattle.ie_walk_spec.specs.declared.Walk.{Walk}
 use Rattle.mac_header_spec.specs.Fields.{mac_header_of}
 use Rattle.eb_read_spec.specs.Policy.{form_fault, policy_fault, mac_header_fault}
 use Rattle.eb_read_spec.proofs.Keeps.{Kept, list_keeps}
-use Rattle.eb_read_spec.specs.declared.Examination.{Examination}
+use Rattle.eb_read_spec.specs.Read.{Examination}
 use Rattle.eb_read_spec.specs.Read.{walk_start, skipped_before, behind_header, elements_walk, missing, walk_number, examined}
 use mir.Facts.{and_yes}
 
@@ -93,7 +94,7 @@ OuterSmall outer.End = Unit
 OuterSmall (outer.Group from to) = Unit
 OuterSmall (outer.Joining from to) = Unit
 OuterSmall (outer.Skip to) = Unit
-OuterSmall (outer.Fault number) = Late number
+OuterSmall (outer.Fault refusal) = Late (number_of refusal)
 
 outer_small : (s : List ℕ) (at end : ℕ) → OuterSmall (outer_at s at end)
 unfolding outer_at outer_word group_of
@@ -105,7 +106,7 @@ outer_small s at end =
 abbrev InnerSmall : InnerStep → Type 0
 InnerSmall inner.Back = Unit
 InnerSmall (inner.Part kind from to) = Unit
-InnerSmall (inner.Fault number) = Late number
+InnerSmall (inner.Fault refusal) = Late (number_of refusal)
 
 inner_small : (s : List ℕ) (at end : ℕ) → InnerSmall (inner_at s at end)
 unfolding inner_at inner_word
@@ -119,7 +120,7 @@ module _ (P : ℕ → Type 0) (none : P 0) (is_cut : P 2) (is_shape : P 6) where
   Faults header.End = Unit
   Faults (header.Payload from) = Unit
   Faults (header.Element id from to) = Unit
-  Faults (header.Fault number) = P number
+  Faults (header.Fault refusal) = P (number_of refusal)
 
   header_faults : (s : List ℕ) (at end : ℕ) → Faults (header_at s at end)
   unfolding header_at header_word
@@ -133,7 +134,7 @@ module _ (P : ℕ → Type 0) (none : P 0) (is_cut : P 2) (is_shape : P 6) where
   header_step bound s at end rest header.End e f = rw (e, header_go) none
   header_step bound s at end rest (header.Payload from) e f = rw (e, header_go) none
   header_step bound s at end rest (header.Element id from to) e f = rw (e, header_go) (rest to)
-  header_step bound s at end rest (header.Fault number) e f = rw (e, header_go) f
+  header_step bound s at end rest (header.Fault refusal) e f = rw (e, header_go) f
 
   header_go_lem : (bound : ℕ) (s : List ℕ) (at end : ℕ) → P (header_go bound s at end).fault
   unfolding header_go
@@ -158,8 +159,8 @@ small_kept s end = record {
   moved = λ at to w low h. h;
   skips = λ at to w low h. h;
   parts = λ at kind from to w low le high h. taken_part s w kind from to at h;
-  stops = λ at number w e h. rw e at (outer_small s at end);
-  stops_inside = λ at to number w e h. rw e at (inner_small s at to);
+  stops = λ at refusal w e h. rw e at (outer_small s at end);
+  stops_inside = λ at to refusal w e h. rw e at (inner_small s at to);
 }
 
 pub elements_small : (s : List ℕ) (at end : ℕ) → WalkSmall (elements_walk s at end)

@@ -16,7 +16,7 @@ use Rattle.ie_walk_spec.proofs.ListLaws.{payload_past}
 use Rattle.mac_header_spec.specs.Fields.{offsets_of, mac_header_of}
 use Rattle.eb_read_spec.specs.Claims.{SkippedFitTheFrame}
 use Rattle.eb_read_spec.specs.Read.{CountsBefore, walk_start, skipped_before, behind_header, elements_walk, examined}
-use Rattle.eb_read_spec.specs.declared.Examination.{Examination}
+use Rattle.eb_read_spec.specs.Read.{Examination}
 use Rattle.eb_read_spec.proofs.Each.{each_eq}
 use Rattle.eb_read_spec.proofs.Within.{header_within_lem}
 use Rattle.eb_read_spec.proofs.Keeps.{Kept, list_keeps}
@@ -35,7 +35,7 @@ header_step bound s at end rest header.End e w = rw (e, header_go) (none_few at 
 header_step bound s at end rest (header.Payload from) e w = rw (e, header_go) (record { few = omega arith; before = λ some. (omega (arith, w), w.1) })
 header_step bound s at end rest (header.Element id from to) e w =
     rw (e, header_go) (record { few = omega (arith, w, (rest to).few); before = λ some. let behind = (rest to).before some in (omega (arith, w, behind.0), behind.1) })
-header_step bound s at end rest (header.Fault number) e w = rw (e, header_go) (none_few at end _ _)
+header_step bound s at end rest (header.Fault refusal) e w = rw (e, header_go) (none_few at end _ _)
 
 header_few : (bound : ℕ) (s : List ℕ) (at end : ℕ) → HeaderFew at end (header_go bound s at end)
 unfolding header_go
@@ -49,8 +49,8 @@ counted_kept s start end = record {
   moved = λ at to w low h. omega (arith, low, h);
   skips = λ at to w low h. omega (arith, low, h);
   parts = λ at kind from to w low le high h. omega (arith, low, le, h, part_counts s w kind from to at);
-  stops = λ at number w e h. h;
-  stops_inside = λ at to number w e h. h;
+  stops = λ at refusal w e h. h;
+  stops_inside = λ at to refusal w e h. h;
 }
 
 payload_inside : (s : List ℕ) (at end : ℕ) → at ≤ end → at + (payload_list s at end).skipped ≤ end

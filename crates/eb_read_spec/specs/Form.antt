@@ -7,7 +7,7 @@ use Rattle.eb_record_spec.specs.declared.BeaconForm.{BeaconForm}
 use Rattle.ie_walk_spec.specs.declared.Walk.{Walk}
 use Rattle.eb_read_spec.specs.Decode.{decoded}
 use Rattle.eb_read_spec.specs.Inside.{lies_inside}
-use Rattle.eb_read_spec.specs.declared.ReadAnswer.{ReadAnswer}
+use Rattle.eb_read_spec.specs.Read.{ReadAnswer}
 use Rattle.eb_read_spec.specs.declared.FormReading.{FormReading}
 
 -- the form of the record at the offsets of a walk; of the blank record, if an element does not lie inside the frame

@@ -1,16 +1,40 @@
 -- Reading: the checks in their order, and the record (docs/RULES.md, The order of checks). Assumes nothing.
-use Rattle.std.specs.Prelude.{ℕ, ◌+◌, ◌≤◌, ◌≡◌, List}
+use Rattle.std.specs.Prelude.{ℕ, ◌+◌, ◌≤◌, ◌≡◌, List, Result, Ok, Err}
 use Rattle.octets_spec.specs.Choice.{if_eq, if_ne}
-use Rattle.refusal.specs.Refusal.{done, missing_or_twice}
+use Rattle.refusal.specs.Refusal.{done, missing_or_twice, number_of, number_in}
+use Rattle.refusal.specs.declared.Refusal.{Refusal}
 use Rattle.eb_record_spec.specs.Record.{blank_beacon}
+use Rattle.eb_record_spec.specs.declared.Beacon.{Beacon}
 use Rattle.mac_header_spec.specs.Fields.{mac_header_of}
 use Rattle.ie_walk_spec.specs.Walk.{blank_walk, besides, header_list, skipped_over, payload_list}
 use Rattle.ie_walk_spec.specs.declared.Walk.{Walk}
 use Rattle.ie_walk_spec.specs.declared.HeaderListEnd.{HeaderListEnd}
 use Rattle.eb_read_spec.specs.Policy.{mac_header_fault}
 use Rattle.eb_read_spec.specs.Decode.{decoded}
-use Rattle.eb_read_spec.specs.declared.Examination.{Examination}
-use Rattle.eb_read_spec.specs.declared.ReadAnswer.{ReadAnswer}
+
+-- the number of a frame and what the walk over it noted
+pub record Examination : Type 0 where
+  pub number : ℕ
+  pub walk : Walk
+
+-- the number of a frame and its record, which is the blank one if the number is not 0
+pub record ReadAnswer : Type 0 where
+  pub number : ℕ
+  pub beacon : Beacon
+
+-- what the checks of a frame say of it, and what the walk noted
+abbrev pub examination_of : Result (Unit {0}) Refusal → Walk → Examination
+examination_of verdict walk = record { number = number_in verdict; walk = walk }
+
+-- what is known of an accepted frame's elements, and nothing of one that is refused
+abbrev pub walk_in : Result Walk Refusal → Walk
+walk_in (Ok walk) = walk
+walk_in (Err refusal) = blank_walk
+
+-- what reading gives: the record, or a refusal with the blank one
+abbrev pub answer_of : Result Beacon Refusal → ReadAnswer
+answer_of (Ok beacon) = record { number = done; beacon = beacon }
+answer_of (Err refusal) = record { number = number_of refusal; beacon = blank_beacon }
 
 -- where the walk begins behind the header list: no element is noted
 unfoldable pub walk_start : HeaderListEnd → Walk

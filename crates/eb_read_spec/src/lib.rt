@@ -8,21 +8,7 @@ ghost use Rattle.eb_read_spec.specs.Inside.{AcceptedLiesInside};
 ghost use Rattle.eb_read_spec.specs.Network.{NetworkIsTheRecords, NetworkLiesInside};
 ghost use Rattle.eb_read_spec.specs.Witnesses.{ShortestIsRead, SomeFrameIsAccepted, SomeFrameHasJoiningInformation, EachNumberIsGiven};
 
-// The number of a frame and what the walk over it noted.
-#[derive(Clone, Copy)]
-pub struct Examination {
-    pub number: u8,
-    pub walk: ie_walk_spec::Walk,
-}
-
-// The number of a frame and its record, which is the blank one if the number is not 0.
-#[derive(Clone, Copy)]
-pub struct ReadAnswer {
-    pub number: u8,
-    pub beacon: eb_record_spec::Beacon,
-}
-
-// The same without enums, as C has it.
+// What reading gives, without enums, as C has it: the number of a frame, and its record, which is the blank one if the number is not 0.
 #[repr(C)]
 #[derive(Clone, Copy)]
 pub struct FormReading {
@@ -30,7 +16,7 @@ pub struct FormReading {
     pub beacon: eb_record_spec::BeaconForm,
 }
 
-// A part of the bytes of a frame: where it starts and how many bytes it has.
+// A part of the bytes of a frame, as C has it: where it starts and how many bytes it has.
 #[repr(C)]
 #[derive(Clone, Copy)]
 pub struct Span {

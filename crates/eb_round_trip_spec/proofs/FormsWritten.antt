@@ -17,7 +17,7 @@ use Rattle.eb_write_spec.specs.Form.{form_fits, form_written}
 use Rattle.eb_write_spec.proofs.LengthLaws.{on}
 use Rattle.eb_write_spec.proofs.Claimed.{write_numbers, form_numbers, differ}
 use Rattle.eb_read_spec.specs.Read.{read_frame}
-use Rattle.eb_read_spec.specs.declared.ReadAnswer.{ReadAnswer}
+use Rattle.eb_read_spec.specs.Read.{ReadAnswer}
 use Rattle.eb_read_spec.specs.Witnesses.{shortest}
 use Rattle.eb_read_spec.proofs.Witnessed.{shortest_is_read, shortest_done, shortest_bytes}
 use Rattle.eb_round_trip_spec.specs.ReadBack.{FormsReadBack}

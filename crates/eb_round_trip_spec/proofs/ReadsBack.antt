@@ -19,7 +19,7 @@ use Rattle.eb_record_spec.specs.declared.Beacon.{Beacon}
 use Rattle.eb_write_spec.specs.Frame.{sequence_bytes, address_bytes, mac_header_bytes, header_descriptor, group_descriptor, short_descriptor, long_descriptor, numbers_in, synchronization_bytes, timings_bytes, template_bytes, hopping_bytes, link_bytes, links_bytes, slotframe_bytes, group_bytes, joining_bytes, frame_of}
 use Rattle.eb_write_spec.specs.Limits.{all_below, present_fits, absent_fits, joining_fits, fits}
 use Rattle.eb_read_spec.specs.Read.{read_frame}
-use Rattle.eb_read_spec.specs.declared.ReadAnswer.{ReadAnswer}
+use Rattle.eb_read_spec.specs.Read.{ReadAnswer}
 use Rattle.eb_round_trip_spec.proofs.Fitting.{on_on}
 use Rattle.eb_write_spec.proofs.LengthLaws.{joining_on, on}
 use Rattle.eb_round_trip_spec.specs.ReadBack.{FramesReadBack, FramesDiffer, WrittenIsOfTheGrammar}

@@ -10,7 +10,7 @@ use Rattle.eb_record_spec.specs.declared.BeaconForm.{BeaconForm}
 use Rattle.eb_record_spec.specs.Form.{beacon_of}
 use Rattle.eb_write_spec.specs.Frame.{frame_of}
 use Rattle.eb_write_spec.specs.Limits.{fits}
-use Rattle.eb_read_spec.specs.declared.ReadAnswer.{ReadAnswer}
+use Rattle.eb_read_spec.specs.Read.{ReadAnswer}
 use Rattle.eb_write_spec.specs.Write.{written_number, written_in, buffer_after}
 use Rattle.eb_write_spec.specs.declared.Written.{Written}
 use Rattle.eb_write_spec.proofs.Claimed.{write_numbers}

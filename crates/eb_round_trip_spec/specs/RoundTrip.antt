@@ -4,7 +4,7 @@ use Rattle.octets_spec.specs.Choice.{if_eq}
 use Rattle.refusal.specs.Refusal.{done}
 use Rattle.eb_record_spec.specs.Record.{blank_beacon}
 use Rattle.eb_record_spec.specs.declared.Beacon.{Beacon}
-use Rattle.eb_read_spec.specs.declared.ReadAnswer.{ReadAnswer}
+use Rattle.eb_read_spec.specs.Read.{ReadAnswer}
 use Rattle.eb_write_spec.specs.Write.{written_number}
 
 -- a reading that is done and gives this record

@@ -4,8 +4,8 @@ use Rattle.eb_read_spec.proofs.ReadLaws.{examining}
 use borrow.Author.Rules.{rules}
 use Rattle.eb_examine.proofs.examine.Goals as goal
 
-pub returns-then-fault-ne-DONE : goal.returns-then-fault-ne-DONE
-returns-then-fault-ne-DONE c = record { answer = search (rules, examining); inside = accepted_lies_inside }
+pub returns-in-Err : goal.returns-in-Err
+returns-in-Err c = record { answer = search (rules, examining); inside = accepted_lies_inside }
 
 pub behind_header-walk-requires : goal.behind_header-walk-requires
 behind_header-walk-requires c = search (rules, examining)

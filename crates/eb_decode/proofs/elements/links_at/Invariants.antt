@@ -1,5 +1,4 @@
 -- `eb_decode::elements::links_at` meets its contract. Assumes nothing.
-use Prim.Native.Nat.{◌-◌, ◌≤◌}
 use mathlib.Core.Path.{◌≡◌}
 use Rattle.octets_spec.proofs.CountedLaws.{filled}
 use Rattle.eb_record_spec.specs.Record.{blank_link}
@@ -7,7 +6,4 @@ use Rattle.eb_read_spec.specs.Decode.{link_at}
 use Rattle.eb_decode.proofs.elements.links_at.Given as goal
 
 abbrev pub invariant-loop-i : goal.invariant-loop-i
-invariant-loop-i l = (l.i ≤ l.count) × (l.i ≤ 16) × (l.all ≡ filled (link_at l.s l.at) blank_link 16 l.i)
-
-abbrev pub decreases-loop-i : goal.decreases-loop-i
-decreases-loop-i l = l.count - l.i
+invariant-loop-i l = l.all ≡ filled (link_at l.s l.at) blank_link 16 l.i

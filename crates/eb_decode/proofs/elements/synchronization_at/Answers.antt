@@ -1,7 +1,0 @@
--- `eb_decode::elements::synchronization_at` meets its contract. Assumes nothing.
-use Rattle.eb_decode.proofs.ElementLaws.{elements}
-use borrow.Author.Rules.{rules}
-use Rattle.eb_decode.proofs.elements.synchronization_at.Goals as goal
-
-pub returns : goal.returns
-returns c = search (rules, elements)

@@ -1,7 +1,0 @@
--- `eb_decode::fixed::be32` meets its contract. Assumes nothing.
-use Rattle.eb_decode.proofs.FixedLaws.{fixing}
-use borrow.Author.Rules.{rules}
-use Rattle.eb_decode.proofs.fixed.be32.Goals as goal
-
-pub returns : goal.returns
-returns c = search (rules, fixing)

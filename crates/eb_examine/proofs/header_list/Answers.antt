@@ -1,7 +1,0 @@
--- `eb_examine::header_list` meets its contract. Assumes nothing.
-use Rattle.eb_read_spec.proofs.ReadLaws.{following}
-use borrow.Author.Rules.{rules}
-use Rattle.eb_examine.proofs.header_list.Goals as goal
-
-pub returns : goal.returns
-returns c = search (rules, following)
