@@ -21,8 +21,8 @@ use Rattle.eb_grammar_spec.proofs.Slices.{part, le_part, le_stands}
 use Rattle.ack_record_spec.specs.declared.Ack.{Ack}
 use Rattle.ack_read_spec.specs.Policy.{mac_header_fault}
 use Rattle.ack_read_spec.specs.Read.{found_in, correction_of, nack_of, ack_from, found_of, ack_number, read_ack}
-use Rattle.ack_read_spec.specs.declared.Found.{Found}
-use Rattle.ack_read_spec.specs.declared.AckAnswer.{AckAnswer}
+use Rattle.ack_read_spec.specs.Read.{Found}
+use Rattle.ack_read_spec.specs.Read.{AckAnswer}
 use Rattle.ack_read_spec.proofs.ReadLaws.{number_of, number_among, read_done}
 use Rattle.ack_read_spec.proofs.Claimed.{accepted_says}
 use Rattle.ack_read_spec.proofs.FoundLaws.{found_start}

@@ -7,7 +7,7 @@ use native.Mathlib.Omega.{arith}
 use native.Mathlib.Nat.{not-suc-le-zero}
 use lib.ListN.{length, get_or, drop, length-append}
 use Rattle.octets_spec.proofs.ChoiceLaws.{if_eq_lem, if_ne_lem, by_eq, was_eq, was_ne}
-use Rattle.refusal.specs.Refusal.{done, shape, missing_or_twice}
+use Rattle.refusal.specs.Refusal.{done, shape, missing_or_twice, number_of}
 use Rattle.ie_step_spec.specs.Header.{header_at}
 use Rattle.ie_step_spec.specs.declared.HeaderStep.{HeaderStep}
 use Rattle.ie_step_spec.specs.declared.HeaderStep.TheVariants as header
@@ -21,7 +21,7 @@ use Rattle.eb_grammar_spec.proofs.Slices.{part, length_part, part_at, part_eleme
 use Rattle.eb_grammar_spec.proofs.SaidSteps.{HeaderSays, header_says}
 use Rattle.eb_grammar_spec.proofs.StepsOf.{header_step, payload_step, header_end_step}
 use Rattle.ack_read_spec.specs.Read.{element_fault, behind_element, found_among, found_in}
-use Rattle.ack_read_spec.specs.declared.Found.{Found}
+use Rattle.ack_read_spec.specs.Read.{Found}
 use Rattle.ack_read_spec.proofs.FoundLaws.{element_other, element_first, FoundLeads, found_none, found_payload, found_correction, found_other}
 use Rattle.ack_grammar_spec.specs.Grammar.{elements_of, ListEnd, bytes_end, termination_1, termination_2}
 
@@ -132,7 +132,7 @@ module _ (s : List ℕ) (bytes : Bytes s) where
       behind r (inl apart) more = other at end f id to r l.size l.ends l.fits l.says.0 l.says.1 l.says.2 apart (subst (λ (g : ℕ). Gives to end g r) (behind_other id from to f apart) more)
       behind r (inr (is, two, none)) more =
           first at end f id to r l.size l.ends l.fits l.says.0 l.says.1 l.says.2 is none (omega (arith, two, l.starts, l.ends)) (subst (λ (g : ℕ). Gives to end g r) (behind_first id from to f is ∙ l.starts) more)
-  step bound go at end f enough (header.Fault number) e k = rw (e, header_go) (λ good. absurd (k (was_eq _ _ 0 number 0 good (λ z. k z)).0))
+  step bound go at end f enough (header.Fault refusal) e k = rw (e, header_go) (λ good. absurd (k (was_eq _ _ 0 (number_of refusal) 0 good (λ z. k z)).0))
 
   sounds : (bound : ℕ) → Sounds bound
   sounds zero at end f enough good = absurd (not-suc-le-zero enough)

@@ -11,7 +11,7 @@ use Rattle.ack_record_spec.specs.declared.Ack.{Ack}
 use Rattle.ack_record_spec.specs.declared.AckForm.{AckForm}
 use Rattle.ack_record_spec.specs.Record.{form_of}
 use Rattle.ack_read_spec.specs.Read.{read_ack, form_reading}
-use Rattle.ack_read_spec.specs.declared.AckAnswer.{AckAnswer}
+use Rattle.ack_read_spec.specs.Read.{AckAnswer}
 use Rattle.ack_read_spec.specs.declared.AckReading.{AckReading}
 use Rattle.ack_grammar_spec.specs.Claims.{ReadAsSaid, FormReadAsSaid}
 use Rattle.ack_grammar_spec.specs.Grammar.{Accepts}

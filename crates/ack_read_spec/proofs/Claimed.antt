@@ -17,7 +17,7 @@ use Rattle.eb_read_spec.proofs.Numbers.{Late, header_fault}
 use Rattle.ack_read_spec.specs.Policy.{mac_header_fault}
 use Rattle.ack_read_spec.specs.Read.{element_fault, found_among, found_in, found_of, read_ack}
 use Rattle.ack_read_spec.specs.Claims.{NumbersTo7, OneIsTheLength, IsAck, IsAddressed, ThreeIsTheType, FourIsSecurity, FiveIsTheAddressing, NeverABeaconToo}
-use Rattle.ack_read_spec.specs.declared.Found.{Found}
+use Rattle.ack_read_spec.specs.Read.{Found}
 use Rattle.ack_read_spec.proofs.Judged.{FormSays, another, secured, unaddressed, formed, HeaderSays, long, empty, form, cut, fine, header_says}
 use Rattle.ack_read_spec.proofs.ReadLaws.{number_of, number_before, number_among}
 

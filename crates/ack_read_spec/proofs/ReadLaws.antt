@@ -8,17 +8,19 @@ use Rattle.octets_spec.specs.Choice.{if_eq}
 use Rattle.octets_spec.specs.Number.{le_at}
 use Rattle.octets_spec.proofs.ChoiceLaws.{if_eq_lem, if_ne_lem}
 use Rattle.mac_header_spec.specs.Fields.{mac_header_of}
-use Rattle.mac_header_spec.specs.declared.FieldOffsets.{FieldOffsets}
 use Rattle.ie_walk_spec.specs.Walk.{header_list}
 use Rattle.eb_record_spec.specs.Form.{is_sequenced, sequence_number, is_extended, address_number}
 use Rattle.ack_record_spec.specs.declared.Ack.{Ack}
 use Rattle.ack_record_spec.specs.declared.AckForm.{AckForm}
 use Rattle.ack_record_spec.specs.Record.{blank_ack, form_of, ack_of, is_ack}
 use Rattle.ack_record_spec.proofs.FormLaws.{form_back}
+use Rattle.std.specs.Prelude.{Result, Ok, Err}
+use Rattle.refusal.specs.Refusal as why
+use Rattle.refusal.specs.declared.Refusal.{Refusal}
+use Rattle.refusal.proofs.NumberLaws.{number_some}
 use Rattle.ack_read_spec.specs.Policy.{mac_header_fault}
-use Rattle.ack_read_spec.specs.Read.{found_in, ack_from, found_of, ack_number, read_ack, form_reading}
-use Rattle.ack_read_spec.specs.declared.Found.{Found}
-use Rattle.ack_read_spec.specs.declared.AckAnswer.{AckAnswer}
+use Rattle.ack_read_spec.specs.Read.{Says, found_in, ack_from, found_of, ack_number, read_ack, form_reading, answer_of, reading_of}
+use Rattle.ack_read_spec.specs.Read.{AckAnswer}
 use Rattle.ack_read_spec.specs.declared.AckReading.{AckReading}
 
 -- the blank form is a record's
@@ -59,30 +61,36 @@ module _ (s : List ℕ) where
     unfolding ack_number
     number_among n good e = rw (← f) (if_eq_lem _ _ _ _ good e)
 
-    pub form_before : (form : AckForm) → (fault ≡ 0 → ⊥) → form ≡ form_of blank_ack → record { number = fault; ack = form } ≡ form_reading (read_ack s)
+  -- ---- by the answers of the calls
+  pub refused_before : (refusal : Refusal) → why.number_of refusal ≡ mac_header_fault s → reading_of (Err refusal) ≡ form_reading (read_ack s)
+  unfolding form_reading
+  refused_before refusal f = let bad = number_some refusal in rw (← read_refused _ (number_before _ f bad) bad) refl
+
+  module _ (good : 0 ≡ mac_header_fault s) where
+    pub refused_among : (refusal : Refusal) → Says (Err refusal) (found_of s) → reading_of (Err refusal) ≡ form_reading (read_ack s)
     unfolding form_reading
-    form_before form bad e = rw (← read_refused fault (number_before bad) bad, e) refl
+    refused_among refusal is = rw (← read_refused _ (number_among 0 good _ refl (sym is)) (number_some refusal)) refl
 
-    module _ (good : fault ≡ 0) (found : Found) (is : found ≡ found_of s) where
-      pub form_among : (form : AckForm) → (found.number ≡ 0 → ⊥) → form ≡ form_of blank_ack → record { number = found.number; ack = form } ≡ form_reading (read_ack s)
-      unfolding form_reading
-      form_among form bad e = rw (← read_refused found.number (number_among found.number good (rw is)) bad, e) refl
-
-      pub form_done : (form : AckForm) → found.number ≡ 0 → form ≡ form_of (ack_from (mac_header_of s) (le_at 2 s found.at)) → record { number = 0; ack = form } ≡ form_reading (read_ack s)
-      unfolding form_reading
-      form_done form done e = rw (← read_done _ (number_among 0 good (sym done ∙ rw is)) refl, ← is, e) refl
+    pub form_done : (form : AckForm) (at : ℕ) → Says (Ok at) (found_of s) → form ≡ form_of (ack_from (mac_header_of s) (le_at 2 s at)) → reading_of (Ok form) ≡ form_reading (read_ack s)
+    unfolding form_reading
+    form_done form at is e = rw (← read_done _ (number_among 0 good 0 refl (rw is refl)) refl, is, e) refl
 
   -- the record of a form that is as reading gives it
-  pub read_record : (reading : AckReading) (ack : Ack) → reading ≡ form_reading (read_ack s) → is_ack reading.ack ≡ true → ack ≡ ack_of reading.ack → record { number = reading.number; ack = ack } ≡ read_ack s
+  pub record_read : (form : AckForm) (ack : Ack) → reading_of (Ok form) ≡ form_reading (read_ack s) → is_ack form ≡ true → ack ≡ ack_of form → answer_of (Ok ack) ≡ read_ack s
   unfolding form_reading
-  read_record reading ack e fits f =
-      let form : reading.ack ≡ form_of (read_ack s).ack = ap (λ (r : AckReading). r.ack) e in
-      let back : ack ≡ (read_ack s).ack = f ∙ (ap ack_of form ∙ form_back (read_ack s).ack (rw form at fits)) in
-      let number : reading.number ≡ (read_ack s).number = ap (λ (r : AckReading). r.number) e in
+  record_read form ack e fits f =
+      let same : form ≡ form_of (read_ack s).ack = ap (λ (r : AckReading). r.ack) e in
+      let back : ack ≡ (read_ack s).ack = f ∙ (ap ack_of same ∙ form_back (read_ack s).ack (rw same at fits)) in
+      let number : 0 ≡ (read_ack s).number = ap (λ (r : AckReading). r.number) e in
       λ i. record { number = number i; ack = back i }
 
-  pub found_at : (offsets : FieldOffsets) (found : Found) → offsets.elements ≡ (mac_header_of s).elements → offsets.end ≡ (mac_header_of s).end → found ≡ found_in (header_list s offsets.elements offsets.end) 0 → found ≡ found_of s
-  unfolding found_of
-  found_at offsets found e f g = rw (e, f) at g
+  -- and no record where it is refused
+  pub record_refused : (refusal : Refusal) → reading_of (Err refusal) ≡ form_reading (read_ack s) → answer_of (Err refusal) ≡ read_ack s
+  unfolding form_reading
+  record_refused refusal e = read_refused _ (ap (λ (r : AckReading). r.number) e ∙ number_of) (number_some refusal)
 
-pub ruleset reading = (blank_fits, form_before, form_among, form_done, read_record, found_at)
+  pub found_at : (at end : ℕ) (result : Result ℕ Refusal) → at ≡ (mac_header_of s).elements → end ≡ (mac_header_of s).end → Says result (found_in (header_list s at end) 0) → Says result (found_of s)
+  unfolding found_of
+  found_at at end result e f g = rw (e, f) at g
+
+pub ruleset reading = (blank_fits, refused_before, refused_among, form_done, record_read, record_refused, found_at)

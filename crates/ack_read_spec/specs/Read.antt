@@ -1,18 +1,28 @@
 -- Reading an acknowledgement: the correction among the header elements, the checks in their order, and the record (docs/RULES.md,
 -- Acknowledgements). The header list is that of a beacon. Assumes nothing.
-use Rattle.std.specs.Prelude.{ℕ, ◌-◌, ◌/◌, ◌%◌, ◌^◌, Bool, List, [], ◌∷◌, eqb, ℤ, pos, ◌-ℤ◌}
+use Rattle.std.specs.Prelude.{ℕ, ◌-◌, ◌/◌, ◌%◌, ◌^◌, ◌≡◌, Bool, List, [], ◌∷◌, eqb, ℤ, pos, ◌-ℤ◌, Option, Some, None, Result, Ok, Err}
 use Rattle.octets_spec.specs.Choice.{if_lt, if_eq, if_ne}
 use Rattle.octets_spec.specs.Number.{le_at}
-use Rattle.refusal.specs.Refusal.{done, shape, missing_or_twice}
+use Rattle.refusal.specs.Refusal.{done, shape, missing_or_twice, number_of}
+use Rattle.refusal.specs.declared.Refusal.{Refusal}
 use Rattle.mac_header_spec.specs.Fields.{mac_header_of, sequence_of, address_of}
 use Rattle.mac_header_spec.specs.declared.MacHeader.{MacHeader}
 use Rattle.ie_walk_spec.specs.Walk.{HeaderElement, HeaderList, header_list}
 use Rattle.ack_record_spec.specs.declared.Ack.{Ack}
+use Rattle.ack_record_spec.specs.declared.AckForm.{AckForm}
 use Rattle.ack_record_spec.specs.Record.{correction_id, blank_ack, form_of}
 use Rattle.ack_read_spec.specs.Policy.{mac_header_fault}
-use Rattle.ack_read_spec.specs.declared.Found.{Found}
-use Rattle.ack_read_spec.specs.declared.AckAnswer.{AckAnswer}
 use Rattle.ack_read_spec.specs.declared.AckReading.{AckReading}
+
+-- what the header list gives: the number of its first fault, and where the content of the correction starts, 0 for none
+pub record Found : Type 0 where
+  pub number : ℕ
+  pub at : ℕ
+
+-- the number of a frame and its record, which is the blank one if the number is not 0
+pub record AckAnswer : Type 0 where
+  pub number : ℕ
+  pub ack : Ack
 
 -- ---- the header list
 -- an element, where the content of a correction before it starts at `at`, 0 for none: a correction has 2 bytes (6), and is there once (7)
@@ -37,6 +47,16 @@ found_among (element ∷ elements) fault at =
 -- what a header list gives, behind elements of which a correction starts at `at`, 0 for none
 unfoldable pub found_in : HeaderList → ℕ → Found
 found_in list at = found_among list.elements list.fault at
+
+-- where the content of a correction starts, where there is one; 0 for none
+abbrev pub place_of : Option ℕ → ℕ
+place_of None = 0
+place_of (Some at) = at
+
+-- an answer says what was found: where the content of the correction starts, or the number of the first fault
+abbrev pub Says : Result ℕ Refusal → Found → Type 0
+Says (Ok at) found = found ≡ record { number = done; at = at }
+Says (Err refusal) found = found.number ≡ number_of refusal
 
 -- ---- the record
 -- bits 0 to 11 as a number in two's complement: from 2048 on it is that number less 4096
@@ -75,3 +95,14 @@ read_ack s =
 -- an answer without enums: its number, and the form of its record
 unfoldable pub form_reading : AckAnswer → AckReading
 form_reading answer = record { number = answer.number; ack = form_of answer.ack }
+
+-- ---- what a call answers
+-- a record is read, or the frame is refused, with the blank record
+abbrev pub answer_of : Result Ack Refusal → AckAnswer
+answer_of (Ok ack) = record { number = done; ack = ack }
+answer_of (Err refusal) = record { number = number_of refusal; ack = blank_ack }
+
+-- the same of its form
+abbrev pub reading_of : Result AckForm Refusal → AckReading
+reading_of (Ok form) = record { number = done; ack = form }
+reading_of (Err refusal) = record { number = number_of refusal; ack = form_of blank_ack }

@@ -5,21 +5,7 @@
 ghost use Rattle.ack_read_spec.specs.Claims.{FiveIsTheAddressing, FourIsSecurity, NeverABeaconToo, NumbersTo7, OneIsTheLength, ThreeIsTheType};
 ghost use Rattle.ack_read_spec.specs.Witnesses.{CorrectionsAreSigned, EachNumberIsGiven, ShortestIsRead};
 
-// What the header list gives: the number of its first fault, and where the content of the correction starts, 0 for none.
-#[derive(Clone, Copy)]
-pub struct Found {
-    pub number: u8,
-    pub at: usize,
-}
-
-// The number of a frame and its record, which is the blank one if the number is not 0.
-#[derive(Clone, Copy)]
-pub struct AckAnswer {
-    pub number: u8,
-    pub ack: ack_record_spec::Ack,
-}
-
-// The same without enums, as C has it.
+// The number of a frame and its record without enums, as C has it; the blank record's form if the number is not 0.
 #[repr(C)]
 #[derive(Clone, Copy)]
 pub struct AckReading {

@@ -1,8 +1,7 @@
 -- The form of a record and the record of a form are inverses of each other, and the laws of both in the shape in which the code meets them.
 -- Assumes nothing.
 use mathlib.Core.Path.{◌≡◌, refl}
-use mathlib.Core.Bool.{true, ◌&&◌, ◌||◌, and-eq-true_iff}
-use lib.Dec.{ltb, eqb}
+use mathlib.Core.Bool.{true, and-eq-true_iff}
 use lib.IntN.{ℤ}
 use Rattle.mac_header_spec.specs.declared.SequenceNumber.{SequenceNumber}
 use Rattle.mac_header_spec.specs.declared.Address.{Address}
@@ -38,14 +37,10 @@ forms_of_no_record = (refl, refl, refl)
 
 -- ---- the code
 module _ (form : AckForm) where
-  pub form_tested : (form.sequenced || eqb form.sequence 0) && ((form.destination_extended || ltb form.destination 65536) && (form.source_extended || ltb form.source 65536)) ≡ is_ack form
-  unfolding is_ack
-  form_tested = refl
-
   pub ack_is : (sequence : SequenceNumber) (destination source : Address) (correction : ℤ) → sequence ≡ sequence_from form.sequenced form.sequence → destination ≡ address_from form.destination_extended form.destination
       → source ≡ address_from form.source_extended form.source → correction ≡ form.correction
       → record { sequence = sequence; pan = form.pan; destination = destination; source = source; correction = correction; nack = form.nack } ≡ ack_of form
   unfolding ack_of
   ack_is sequence destination source correction e f g h = rw (e, f, g, h)
 
-pub ruleset forms = (form_tested, ack_is)
+pub ruleset forms = (ack_is)

@@ -4,9 +4,11 @@
 #![tactic(auto)]
 
 ghost use Rattle.std.specs.Prelude.{◌≡◌};
+ghost use Rattle.eb_record_spec.specs.Form.{made_where};
 ghost use Rattle.ack_record_spec.specs.Record.{blank_ack, form_of, ack_of, is_ack, FormsGiveTheRecord, RecordsGiveTheForm, FormsOfNoRecord};
 
 use mac_header_spec::{Address, SequenceNumber};
+use refusal::Refusal;
 
 // The record. The correction is in microseconds; `nack` says that the frame was not acknowledged.
 #[derive(Clone, Copy)]
@@ -22,7 +24,7 @@ pub struct Ack {
 // The record without enums, as C has it: a mark beside the sequence number, which is 0 where the mark says that there is none, and the kind
 // of each address beside its number.
 #[repr(C)]
-#[derive(Clone, Copy)]
+#[derive(Clone, Copy, Default)]
 pub struct AckForm {
     pub sequenced: bool,
     pub sequence: u8,
@@ -39,12 +41,13 @@ pub struct AckForm {
 pub fn is_ack(form: AckForm) -> bool
     ensures { result ≡ is_ack form }
 {
-    (form.sequenced | (form.sequence == 0))
-        & ((form.destination_extended | (form.destination < 0x1_0000))
-            & (form.source_extended | (form.source < 0x1_0000)))
+    let sequence = eb_record_spec::sequence_in(form.sequenced, form.sequence);
+    let destination = eb_record_spec::address_in(form.destination_extended, form.destination);
+    let source = eb_record_spec::address_in(form.source_extended, form.source);
+    sequence.is_ok() & (destination.is_ok() & source.is_ok())
 }
 
-// The record of a form.
+// The record of a form, of one that is no record's too. `Ack::try_from` tests it.
 pub fn ack_of(form: AckForm) -> Ack
     ensures { result ≡ ack_of form }
 {
@@ -61,21 +64,29 @@ pub fn ack_of(form: AckForm) -> Ack
     }
 }
 
+// The record of a form, where it is a record's.
+impl TryFrom<AckForm> for Ack {
+    type Error = Refusal;
+
+    ghost try_from_gives = { λ form result. result ≡ made_where (is_ack form) (ack_of form) };
+
+    fn try_from(form: AckForm) -> Result<Ack, Refusal> {
+        Ok(Ack {
+            sequence: eb_record_spec::sequence_in(form.sequenced, form.sequence)?,
+            pan: form.pan,
+            destination: eb_record_spec::address_in(form.destination_extended, form.destination)?,
+            source: eb_record_spec::address_in(form.source_extended, form.source)?,
+            correction: form.correction,
+            nack: form.nack,
+        })
+    }
+}
+
 // The form of the blank record, which a refused reading gives to C.
 pub fn blank_form() -> AckForm
     ensures { result ≡ form_of blank_ack }
 {
-    AckForm {
-        sequenced: false,
-        sequence: 0,
-        pan: 0,
-        destination_extended: false,
-        destination: 0,
-        source_extended: false,
-        source: 0,
-        correction: 0,
-        nack: false,
-    }
+    AckForm::default()
 }
 
 // The blank record, which a refused reading gives.

@@ -19,7 +19,7 @@ use Rattle.ack_record_spec.specs.declared.AckForm.{AckForm}
 use Rattle.ack_record_spec.specs.Record.{form_of, ack_of, is_ack}
 use Rattle.ack_record_spec.proofs.FormLaws.{forms_give_the_record, records_give_the_form}
 use Rattle.ack_read_spec.specs.Read.{read_ack}
-use Rattle.ack_read_spec.specs.declared.AckAnswer.{AckAnswer}
+use Rattle.ack_read_spec.specs.Read.{AckAnswer}
 use Rattle.ack_read_spec.proofs.Witnessed.{shortest_is_read}
 use Rattle.ack_write_spec.specs.Frame.{compression_bit, control_word, mac_header_bytes, correction_bits, correction_word, correction_bytes, frame_of}
 use Rattle.ack_write_spec.specs.Limits.{fits, form_fits}

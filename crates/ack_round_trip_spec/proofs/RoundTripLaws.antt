@@ -11,7 +11,7 @@ use Rattle.eb_write_spec.proofs.WrittenLaws.{each_when, number_is, done_number, 
 use Rattle.ack_record_spec.specs.declared.Ack.{Ack}
 use Rattle.ack_record_spec.specs.declared.AckForm.{AckForm}
 use Rattle.ack_record_spec.specs.Record.{blank_ack, ack_of}
-use Rattle.ack_read_spec.specs.declared.AckAnswer.{AckAnswer}
+use Rattle.ack_read_spec.specs.Read.{AckAnswer}
 use Rattle.ack_write_spec.specs.Frame.{frame_of}
 use Rattle.ack_write_spec.specs.Limits.{fits}
 use Rattle.ack_grammar_spec.specs.Claims.{ReadAsSaid}

@@ -9,7 +9,7 @@ use Rattle.ack_record_spec.specs.declared.AckForm.{AckForm}
 use Rattle.ack_record_spec.specs.Record.{blank_ack, form_of, ack_of}
 use Rattle.ack_read_spec.specs.Read.{read_ack}
 use Rattle.ack_read_spec.specs.Witnesses.{shortest}
-use Rattle.ack_read_spec.specs.declared.AckAnswer.{AckAnswer}
+use Rattle.ack_read_spec.specs.Read.{AckAnswer}
 use Rattle.ack_write_spec.specs.Frame.{frame_of}
 use Rattle.ack_write_spec.specs.Limits.{fits, form_fits}
 use Rattle.ack_grammar_spec.specs.Grammar.{Accepts}

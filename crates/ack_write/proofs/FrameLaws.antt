@@ -1,10 +1,11 @@
 -- The laws of the frame and of its limits, in the shape in which the code meets them. Assumes nothing.
 use Prim.Native.Nat.{ℕ, suc, ◌+◌, ◌*◌, ◌<◌, ◌≤◌}
 use mathlib.Core.Path.{◌≡◌, refl, sym, ◌∙◌, ap, subst}
-use mathlib.Core.Bool.{Bool, true, false, not, ◌&&◌, and-false, and-eq-true_iff}
+use mathlib.Core.Bool.{Bool, true, false, ◌&&◌, and-false, and-eq-true_iff}
 use mathlib.Core.List.{List, ◌++◌, append_assoc}
 use native.Mathlib.Omega.{arith}
-use borrow.Author.Tests.{lt-ltb, le-ltb, ltb-true, not-false}
+use Rattle.std.proofs.Math.Bool.{and_assoc}
+use borrow.Author.Tests.{lt-ltb, le-ltb, ltb-true}
 use lib.Dec.{T, leb, leb→le}
 use lib.IntN.{ℤ, pos, negsuc, nat_abs, ◌+ℤ◌}
 use lib.Signed.{le_z, lt_z, non_neg}
@@ -15,9 +16,8 @@ use mir.Facts.{to_z-of_z}
 use Rattle.octets_spec.specs.Choice.{if_on}
 use Rattle.octets_spec.specs.Number.{le_bytes, stored}
 use Rattle.mac_header_spec.specs.declared.Address.{Address}
-use Rattle.mac_header_spec.specs.declared.Address.TheVariants.{Short, Extended}
 use Rattle.eb_record_spec.specs.Form.{address_fits}
-use Rattle.eb_write_spec.specs.Frame.{suppressed_bit, sequence_bytes, address_mode, address_bytes, header_descriptor}
+use Rattle.eb_write_spec.specs.Frame.{suppressed_bit, sequence_bytes, address_mode, address_bytes, flag, header_descriptor}
 use Rattle.eb_write_spec.specs.Limits.{sequence_fits}
 use Rattle.eb_write_spec.proofs.LengthLaws.{length_le, on}
 use Rattle.eb_write_spec.proofs.Claimed.{differ}
@@ -27,27 +27,6 @@ use Rattle.ack_write_spec.specs.Frame.{compression_bit, control_word, mac_header
 use Rattle.ack_write_spec.specs.Limits.{is_correction, fits}
 
 -- ---- frame control
-module _ (mode : ℕ) (source : Address) where
-  pub far_short : (destination : Address) → mode ≡ address_mode destination → (mode ≡ 3 → ⊥) → 1 ≡ compression_bit destination source
-  unfolding compression_bit address_mode
-  far_short (Short n) e h = refl
-  far_short (Extended n) e h = absurd (h e)
-
-module _ (far near : ℕ) where
-  pub near_short : (destination source : Address) → far ≡ address_mode destination → near ≡ address_mode source → far ≡ 3 → (near ≡ 3 → ⊥) → 1 ≡ compression_bit destination source
-  unfolding compression_bit address_mode
-  near_short (Short n) source d s e h = refl
-  near_short (Extended n) (Short m) d s e h = refl
-  near_short (Extended n) (Extended m) d s e h = absurd (h s)
-
-  pub both_extended : (destination source : Address) → far ≡ address_mode destination → near ≡ address_mode source → far ≡ 3 → near ≡ 3 → 0 ≡ compression_bit destination source
-  unfolding compression_bit address_mode
-  both_extended (Short n) source d s e h = absurd (omega (arith, d, e))
-  both_extended (Extended n) (Short m) d s e h = absurd (omega (arith, s, h))
-  both_extended (Extended n) (Extended m) d s e h = refl
-
-pub ruleset compressing = (far_short, near_short, both_extended)
-
 pub control_is : (ack : Ack) (c q d s : ℕ) → c ≡ compression_bit ack.destination ack.source → q ≡ suppressed_bit ack.sequence → d ≡ address_mode ack.destination → s ≡ address_mode ack.source
     → 8706 + c * 64 + q * 256 + d * 1024 + s * 16384 ≡ control_word ack
 unfolding control_word
@@ -153,31 +132,21 @@ module _ (z : ℤ) (fits : SFits w32 z) (w : Within z) where
     same_bits = bits (read z) same.0 same.1
 
 -- the content of the element
-module _ (z y : ℤ) (nack : Bool) (b : ℕ) (e : b ≡ correction_bits y) (y_is : y ≡ z) (small : b < 4096) where
-  pub word_nack : nack ≡ true → (b + 32768 ≡ correction_word z nack) × (b + 32768 < 65536)
-  unfolding correction_word if_on
-  word_nack on = (rw (on, ← y_is, ← e) (omega arith), omega arith)
-
-  pub word_ack : nack ≡ false → (b ≡ correction_word z nack) × (b < 65536)
-  unfolding correction_word if_on
-  word_ack off = (rw (off, ← y_is, ← e) (omega arith), omega arith)
+pub word_is : (z y : ℤ) (nack : Bool) (b mark : ℕ) → b ≡ correction_bits y → y ≡ z → b < 4096 → mark ≡ flag nack → (b + mark * 32768 ≡ correction_word z nack) × (b + mark * 32768 < 65536)
+unfolding correction_word if_on
+word_is z y true b mark e y_is small on = (rw (on, ← y_is, ← e), rw on (omega arith))
+word_is z y false b mark e y_is small off = (rw (off, ← y_is, ← e), rw off (omega arith))
 
 -- ---- the limits
-pub fits_is : (ack : Ack) (z : ℤ) (q d s k : Bool) → q ≡ sequence_fits ack.sequence → ack.pan < 65536 → d ≡ address_fits ack.destination → s ≡ address_fits ack.source → k ≡ is_correction z → z ≡ ack.correction → q && (d && (s && k)) ≡ fits ack
+pub fits_is : (ack : Ack) (z : ℤ) (q d s k : Bool) → q ≡ sequence_fits ack.sequence → ack.pan < 65536 → d ≡ address_fits ack.destination → s ≡ address_fits ack.source → k ≡ is_correction z → z ≡ ack.correction → q && d && s && k ≡ fits ack
 unfolding fits
-fits_is ack z q d s k e small f g h is = rw (e, f, g, h, is, lt-ltb ack.pan 65536 small) refl
+fits_is ack z q d s k e small f g h is = simp and_assoc (rw (e, f, g, h, is, lt-ltb ack.pan 65536 small))
 
 -- a record within the limits has a correction within its own
-pub correction_within : (ack : Ack) (f : Bool) (z : ℤ) → f ≡ fits ack → not f ≡ false → z ≡ ack.correction → is_correction z ≡ true
+pub correction_within : (ack : Ack) → fits ack ≡ true → is_correction ack.correction ≡ true
 unfolding fits
-correction_within ack f z is h e =
-    let within = sym is ∙ not-false f h in
-    rw e (on (is_correction ack.correction) (λ off. simp (off, and-false) at within))
+correction_within ack within = on (is_correction ack.correction) (λ off. simp (off, and-false) at within)
 
--- the length of a frame, also where the record is within the limits, and that it is not too long
-module _ (ack : Ack) (n : ℕ) where
-  pub long_within : n ≡ length (frame_of ack) → fits ack ≡ true → n ≡ length (frame_of ack)
-  long_within long within = long
-
-pub not_long : (n : ℕ) → n ≤ 25 → n ≤ 125
-not_long n few = omega arith
+-- and one whose correction is not is outside the limits
+pub correction_outside : (ack : Ack) (r : Bool) (z : ℤ) → r ≡ is_correction z → z ≡ ack.correction → r ≡ false → fits ack ≡ true → ⊥
+correction_outside ack r z is same off within = let on = correction_within ack within in cc

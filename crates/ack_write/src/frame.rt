@@ -27,29 +27,24 @@ const NACK: u64 = 0x8000;
 // What a number is multiplied by to stand behind two bytes.
 const BYTE_2: u64 = 0x1_0000;
 
+#[tactic(auto, unfolding(ack_write_spec::specs::Frame::compression_bit))]
 fn compression_bit(destination: Address, source: Address) -> u64
     ensures { (result ≡ compression_bit destination source) × (result ≤ 1) }
 {
-    if eb_frame::address_mode(destination) != mac_header_spec::EXTENDED {
-        return 1;
+    match (destination, source) {
+        (Address::Extended(_), Address::Extended(_)) => 0,
+        _ => 1,
     }
-    if eb_frame::address_mode(source) != mac_header_spec::EXTENDED {
-        return 1;
-    }
-    0
 }
 
 fn control_word(ack: Ack) -> u64
     ensures { (result ≡ control_word ack) × (result < 65536) }
 {
-    let sequence = ack.sequence;
-    let destination = ack.destination;
-    let source = ack.source;
     ALWAYS
-        + compression_bit(destination, source) * COMPRESSION
-        + eb_frame::suppressed_bit(sequence) * SUPPRESSED
-        + eb_frame::address_mode(destination) * DESTINATION_MODE
-        + eb_frame::address_mode(source) * SOURCE_MODE
+        + compression_bit(ack.destination, ack.source) * COMPRESSION
+        + eb_frame::suppressed_bit(ack.sequence) * SUPPRESSED
+        + eb_frame::address_mode(ack.destination) * DESTINATION_MODE
+        + eb_frame::address_mode(ack.source) * SOURCE_MODE
 }
 
 fn put_addresses(buffer: &mut [u8], at: usize, destination: Address, source: Address)
@@ -75,14 +70,11 @@ fn put_addresses(buffer: &mut [u8], at: usize, destination: Address, source: Add
 fn put_mac_header(buffer: &mut [u8], ack: Ack)
     ensures { buffer.new ≡ stored buffer.old 0 (mac_header_bytes ack) }
 {
-    let sequence = ack.sequence;
-    let destination = ack.destination;
-    let source = ack.source;
-    let size = eb_limits::sizes::sequence_size(sequence);
-    let first = control_word(ack) + eb_frame::sequence_number(sequence) * BYTE_2;
+    let size = eb_limits::sizes::sequence_size(ack.sequence);
+    let first = control_word(ack) + eb_frame::sequence_number(ack.sequence) * BYTE_2;
     octets::put::put_le(buffer, 0, 2 + size as u8, first);
     octets::put::put_le(buffer, 2 + size, 2, ack.pan as u64);
-    put_addresses(buffer, 4 + size, destination, source);
+    put_addresses(buffer, 4 + size, ack.destination, ack.source);
 }
 
 fn correction_bits(correction: i32) -> u64
@@ -99,11 +91,7 @@ fn correction_word(correction: i32, nack: bool) -> u64
     requires { is_correction correction ≡ true }
     ensures { (result ≡ correction_word correction nack) × (result < 65536) }
 {
-    let bits = correction_bits(correction);
-    if nack {
-        return bits + NACK;
-    }
-    bits
+    correction_bits(correction) + u64::from(nack) * NACK
 }
 
 // The correction: its descriptor and its content as one number.
@@ -123,12 +111,9 @@ fn put_correction(buffer: &mut [u8], at: usize, correction: i32, nack: bool)
 fn header_length(ack: Ack) -> usize
     ensures { (result ≡ length (mac_header_bytes ack)) × (result ≤ 21) }
 {
-    let sequence = ack.sequence;
-    let destination = ack.destination;
-    let source = ack.source;
-    4 + eb_limits::sizes::sequence_size(sequence)
-        + eb_limits::sizes::address_size(destination)
-        + eb_limits::sizes::address_size(source)
+    4 + eb_limits::sizes::sequence_size(ack.sequence)
+        + eb_limits::sizes::address_size(ack.destination)
+        + eb_limits::sizes::address_size(ack.source)
 }
 
 // The bytes of the frame: the correction has 4.

@@ -9,8 +9,8 @@ returns-then-id-ne-CORRECTION c = search (rules, element-faults)
 pub returns-then-to-from-ne2 : goal.returns-then-to-from-ne2
 returns-then-to-from-ne2 c = search (rules, element-faults)
 
-pub returns-then-at-ne0 : goal.returns-then-at-ne0
-returns-then-at-ne0 c = search (rules, element-faults)
+pub returns-then-is_some : goal.returns-then-is_some
+returns-then-is_some c = search (rules, element-faults)
 
 pub returns : goal.returns
 returns c = search (rules, element-faults)

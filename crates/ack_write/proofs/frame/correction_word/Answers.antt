@@ -1,10 +1,9 @@
 -- `ack_write::frame::correction_word` meets its contract. Assumes nothing.
+use mathlib.Core.Path.{◌∙◌}
 use mir.Facts.{to_z-of_z}
-use Rattle.ack_write.proofs.FrameLaws.{word_nack, word_ack}
+use Rattle.eb_frame.proofs.JoiningLaws.{flag_is}
+use Rattle.ack_write.proofs.FrameLaws.{word_is}
 use Rattle.ack_write.proofs.frame.correction_word.Goals as goal
 
-pub returns-then-nack : goal.returns-then-nack
-returns-then-nack c = word_nack c.args.correction _ c.args.nack _ c.correction_bits-bits.ensures.0 (to_z-of_z c.ranges.correction) c.correction_bits-bits.ensures.1 c.if-nack.true
-
 pub returns : goal.returns
-returns c = word_ack c.args.correction _ c.args.nack _ c.correction_bits-bits.ensures.0 (to_z-of_z c.ranges.correction) c.correction_bits-bits.ensures.1 c.if-nack.false
+returns c = word_is c.args.correction _ c.args.nack _ _ c.correction_bits.ensures.0 (to_z-of_z c.ranges.correction) c.correction_bits.ensures.1 (c.from.ensures ∙ flag_is c.args.nack)
