@@ -14,6 +14,6 @@ pub fn channel(asn: u64, channel_offset: u16) -> u8
     ensures channel { result ≡ channel_of asn channel_offset }
     ensures sequence { HoppingPermutes }
 {
-    let entry = ((asn % 16) + (channel_offset % 16) as u64) % 16;
+    let entry = ((asn % 16) + u64::from(channel_offset % 16)) % 16;
     SEQUENCE[entry as usize]
 }

@@ -1,45 +1,37 @@
 // The decision from what is known of a whole list of links.
 ghost use Rattle.std.specs.Prelude.{◌≡◌};
 ghost use Rattle.slot_spec.specs.Slot.{limits, transmit_on, listen_on, action};
-ghost use Rattle.slot_spec.specs.Scan.{found_of, concluded};
+ghost use Rattle.slot_spec.specs.Scan.{concluded};
 
-use slot_spec::{Decision, Found, Scan, Search, SlotQuery};
+use refusal::Refusal;
+use slot_spec::{Action, ActiveLink, Scan, SlotQuery};
 
 // The most links that a schedule may have.
 const MOST_LINKS: usize = 16;
 // The last ASN: an ASN has five bytes.
 const LAST_ASN: u64 = 0xFF_FFFF_FFFF;
 
-fn result(search: Search) -> Found
-    ensures { result ≡ found_of search }
-{
-    if search.found {
-        return Found::At((search.index % 256) as u8, search.channel_offset);
-    }
-    Found::Nothing
-}
-
-fn listen(query: SlotQuery, found: Found) -> Decision
+fn listen(query: SlotQuery, found: Option<ActiveLink>) -> Action
     ensures { result ≡ listen_on query found }
 {
     match found {
-        Found::At(index, channel_offset) => Decision::Listen(
-            index,
-            hopping::channel(query.asn, channel_offset),
-        ),
-        Found::Nothing => Decision::Sleep,
+        Some(link) => Action::Listen {
+            index: link.index,
+            channel: hopping::channel(query.asn, link.channel_offset),
+        },
+        None => Action::Sleep,
     }
 }
 
-fn transmit(query: SlotQuery, found: Found, other: Decision) -> Decision
+fn transmit(query: SlotQuery, found: Option<ActiveLink>, other: Action) -> Action
     ensures { result ≡ transmit_on query found other }
 {
     match found {
-        Found::At(index, channel_offset) => Decision::Transmit(
-            index,
-            hopping::channel(query.asn, channel_offset),
-        ),
-        Found::Nothing => other,
+        Some(link) => Action::Transmit {
+            index: link.index,
+            channel: hopping::channel(query.asn, link.channel_offset),
+        },
+        None => other,
     }
 }
 
@@ -52,7 +44,7 @@ fn within(query: SlotQuery, count: usize, below: bool) -> bool
             & ((count <= MOST_LINKS) & (below & ((query.id == 0) & (query.asn <= LAST_ASN)))))
 }
 
-fn act(query: SlotQuery, sends: Found, hears: Found) -> Decision
+fn act(query: SlotQuery, sends: Option<ActiveLink>, hears: Option<ActiveLink>) -> Action
     ensures { result ≡ action query sends hears }
 {
     let awaited = listen(query, hears);
@@ -63,11 +55,11 @@ fn act(query: SlotQuery, sends: Found, hears: Found) -> Decision
 }
 
 // The decision from what is known of a whole list, which has so many links.
-pub(crate) fn conclude(query: SlotQuery, count: usize, seen: Scan) -> Decision
+pub(crate) fn conclude(query: SlotQuery, count: usize, seen: Scan) -> Result<Action, Refusal>
     ensures { result ≡ concluded query count seen }
 {
     if within(query, count, seen.below) {
-        return act(query, result(seen.transmit), result(seen.receive));
+        return Ok(act(query, seen.transmit, seen.receive));
     }
-    Decision::Refused
+    Err(Refusal::OutOfLimits)
 }

@@ -1,27 +1,26 @@
 -- What the code finds link by link is what the definition says of the whole list; and what one turn of a loop through the list keeps.
 -- Assumes nothing.
 use Prim.Native.Nat.{ℕ, suc, ◌+◌, ◌-◌, ◌^◌, ◌<◌, ◌≤◌}
-use mathlib.Core.Path.{◌≡◌, refl, subst, ap, ◌∙◌}
-use mathlib.Core.Bool.{Bool, true, false, ◌&&◌, and-eq-true_iff}
-use mathlib.Core.List.{List, [], ◌∷◌}
+use mathlib.Core.Path.{◌≡◌, refl, sym, ap, ◌∙◌}
+use mathlib.Core.Bool.{Bool, true, false, ◌&&◌}
+use mathlib.Core.List.{List, [], ◌∷◌, ◌++◌, append-nil, append_assoc}
 use native.Mathlib.Nat.{le_refl, mod-eq_of_lt}
 use native.Mathlib.Omega.{arith}
-use borrow.Author.Tests.{leb-true}
+use borrow.Author.Tests.{lt-leb}
 use lib.Dec.{leb, eqb}
-use lib.ListN.{length, get_or, drop, drop_of_length-le}
-use lib.Seq.{drop-cons}
+use lib.ListN.{length, drop, length-append, drop_of_length-le}
+use lib.Seq.{drop-append_seam}
+use Rattle.std.specs.Prelude.{Result}
 use Rattle.octets_spec.specs.Choice.{if_on}
+use Rattle.octets_spec.proofs.ChoiceLaws.{by_lt}
+use Rattle.refusal.specs.declared.Refusal.{Refusal}
 use Rattle.eb_record_spec.specs.declared.Link.{Link}
-use Rattle.eb_record_spec.specs.Record.{blank_link}
-use Rattle.slot_spec.specs.Slot.{limits, timeslots_below, slot_offset, is_active, option_bit, first_active, decision}
-use Rattle.slot_spec.specs.Scan.{begun, search_of, searched, found_of, stepped, scanned, concluded}
+use Rattle.slot_spec.specs.Slot.{limits, timeslots_below, first_active, decision}
+use Rattle.slot_spec.specs.Scan.{begun, stepped, scanned, concluded}
 use Rattle.slot_spec.specs.Answer.{answer_of, slot_answer}
-use Rattle.slot_spec.specs.declared.Found.{Found}
-use Rattle.slot_spec.specs.declared.Found.TheVariants.{Nothing, At}
 use Rattle.slot_spec.specs.declared.Scan.{Scan}
 use Rattle.slot_spec.specs.declared.SlotQuery.{SlotQuery}
-use Rattle.slot_spec.specs.declared.Decision.{Decision}
-use Rattle.slot_spec.specs.declared.Decision.TheVariants.{Refused}
+use Rattle.slot_spec.specs.declared.Action.{Action}
 
 -- what is known of a list, in the words of the definition
 abbrev known : Scan → ℕ → List Link → Scan
@@ -29,82 +28,65 @@ known start index links = record {
   size = start.size;
   slot = start.slot;
   below = timeslots_below start.size links;
-  transmit = search_of (first_active start.slot 0 index links);
-  receive = search_of (first_active start.slot 1 index links);
+  transmit = first_active start.slot 0 index links;
+  receive = first_active start.slot 1 index links;
 }
 
-searched_is : (serves : Bool) (index offset : ℕ) (found : Found) → searched serves index offset (search_of found) ≡ search_of (if_on serves (At index offset) found)
-unfolding searched if_on
-searched_is true index offset found = refl
-searched_is false index offset found = refl
-
--- an index is below a bound
-abbrev Below : ℕ → Found → Type 0
-Below bound Nothing = Unit
-Below bound (At index offset) = index < bound
-
-found_is : (bound : ℕ) (found : Found) → bound ≤ 256 → Below bound found → found_of (search_of found) ≡ found
-unfolding found_of if_on
-found_is bound Nothing small below = refl
-found_is bound (At index offset) small below = let low : index < 256 = omega (arith, below) in rw (mod-eq_of_lt low)
-
-chosen_below : (serves : Bool) (bound index offset : ℕ) (found : Found) → index < bound → Below bound found → Below bound (if_on serves (At index offset) found)
-unfolding if_on
-chosen_below true bound index offset found here behind = here
-chosen_below false bound index offset found here behind = behind
-
-first_below : (slot bit index bound : ℕ) (links : List Link) → index + length links ≤ bound → Below bound (first_active slot bit index links)
-unfolding first_active
-first_below slot bit index bound [] fits = tt
-first_below slot bit index bound (link ∷ links) fits =
-    chosen_below (is_active slot link && option_bit bit link) bound index link.channel_offset (first_active slot bit (suc index) links) (omega arith) (first_below slot bit (suc index) bound links (omega arith))
-
-scanned_is : (query : SlotQuery) (index : ℕ) (links : List Link) → scanned (begun query) index links ≡ known (begun query) index links
+scanned_is : (query : SlotQuery) (index : ℕ) (links : List Link) → index + length links ≤ 256 → scanned (begun query) index links ≡ known (begun query) index links
 unfolding scanned stepped begun first_active timeslots_below
-scanned_is query index [] = refl
-scanned_is query index (link ∷ links) = rw (scanned_is query (suc index) links) (simp searched_is)
+scanned_is query index [] few = refl
+scanned_is query index (link ∷ links) few =
+    let low : index < 256 = omega arith in
+    rw (scanned_is query (suc index) links (omega arith), mod-eq_of_lt low)
 
--- a schedule within the limits has at most 16 links
-few : (query : SlotQuery) (count : ℕ) (below : Bool) → limits query count below ≡ true → count ≤ 16
+-- more than 16 links are refused, whatever is known of them
+too_many : (query : SlotQuery) (count : ℕ) (below : Bool) → 16 < count → limits query count below ≡ false
 unfolding limits
-few query count below h = leb-true count 16 (third (leb 1 query.size) (leb 1 count) (leb count 16) (below && (eqb query.id 0 && leb query.asn (2 ^ 40 - 1))) h)
+too_many query count below many = third (leb 1 query.size) (leb 1 count) (leb count 16) (below && (eqb query.id 0 && leb query.asn (2 ^ 40 - 1))) (lt-leb count 16 many)
   where
-    third : (a b c d : Bool) → (a && (b && (c && d))) ≡ true → c ≡ true
-    third a b c d e = ((and-eq-true_iff c d).0 ((and-eq-true_iff b (c && d)).0 ((and-eq-true_iff a (b && (c && d))).0 e).1).1).0
-
-if_within : (ok : Bool) (x y : Decision) → (ok ≡ true → x ≡ y) → if_on ok x Refused ≡ if_on ok y Refused
-unfolding if_on
-if_within true x y h = h refl
-if_within false x y h = refl
+    third : (a b c d : Bool) → c ≡ false → (a && (b && (c && d))) ≡ false
+    third true true c d e = rw e
+    third true false c d e = refl
+    third false b c d e = refl
 
 decided : (links : List Link) (query : SlotQuery) → concluded query (length links) (scanned (begun query) 0 links) ≡ decision links query
-unfolding concluded decision begun
+unfolding concluded decision begun if_on
 decided links query =
-    let slot : ℕ = slot_offset query in
-    let found : (bit : ℕ) → length links ≤ 16 → found_of (search_of (first_active slot bit 0 links)) ≡ first_active slot bit 0 links = λ bit short. found_is 16 (first_active slot bit 0 links) (omega arith) (first_below slot bit 0 16 links (omega arith)) in
-    rw (scanned_is query 0 links)
-    (if_within (limits query (length links) (timeslots_below query.size links)) _ _ (λ ok. let short = few query (length links) (timeslots_below query.size links) ok in rw (found 0 short, found 1 short)))
+    by_lt 16 (length links)
+    (λ many. rw (too_many query (length links) (scanned (begun query) 0 links).below many, too_many query (length links) (timeslots_below query.size links) many))
+    (λ few. rw (scanned_is query 0 links (omega arith)))
 
--- ---- a loop through a list: what is known of the links from an index on
+-- ---- a pass through a list from its end
+-- the links that are left, with those behind them, are the list; and this is known of those behind them
+pub record Passed (links : List Link) (start : Scan) (left : List Link) (seen : Scan) : Type 0 where
+  pub whole : left ++ drop (length left) links ≡ links
+  pub known : seen ≡ scanned start (length left) (drop (length left) links)
+
 module _ (links : List Link) (start : Scan) where
-  pub begin_at_end : start ≡ scanned start (length links) (drop (length links) links)
+  -- all links are left
+  pub begin_at_end : Passed links start links start
   unfolding scanned
-  begin_at_end = rw (drop_of_length-le links (le_refl (length links)))
+  begin_at_end = let none : drop (length links) links ≡ [] = drop_of_length-le links (le_refl (length links)) in record { whole = rw none (append-nil links); known = rw none }
 
-  in_front_lem : (i : ℕ) (seen next : Scan) → i < length links → seen ≡ scanned start (suc i) (drop (suc i) links) → next ≡ stepped seen (get_or links i blank_link) i → next ≡ scanned start i (drop i links)
+  -- the last link that was left is met
+  pub turn : (left : List Link) (link : Link) (index : ℕ) (seen next : Scan) → Passed links start (left ++ (link ∷ [])) seen → index ≡ length left → next ≡ stepped seen link index → Passed links start left next
   unfolding scanned
-  in_front_lem i seen next within so_far e = rw (drop-cons links i blank_link within) (rw so_far at e)
+  turn left link index seen next so_far at e =
+      let size : length (left ++ (link ∷ [])) ≡ suc (length left) = omega (arith, length-append left (link ∷ [])) in
+      let whole : left ++ (link ∷ drop (suc (length left)) links) ≡ links = rw (size, append_assoc) at so_far.whole in
+      let known : seen ≡ scanned start (suc (length left)) (drop (suc (length left)) links) = rw size at so_far.known in
+      let here : drop (length left) links ≡ link ∷ drop (suc (length left)) links = ap (drop (length left)) (sym whole) ∙ drop-append_seam left (link ∷ drop (suc (length left)) links) in
+      record { whole = rw here whole; known = rw here (rw (known, at) at e) }
 
-  pub turn : (i : ℕ) (seen next : Scan) → 0 < i → i ≤ length links → seen ≡ scanned start i (drop i links) → next ≡ stepped seen (get_or links (i - 1) blank_link) (i - 1) → next ≡ scanned start (i - 1) (drop (i - 1) links)
-  turn i seen next more within so_far e =
-      let one_less : i ≡ suc (i - 1) = omega arith in
-      in_front_lem (i - 1) seen next (omega arith) (subst (λ (k : ℕ). seen ≡ scanned start k (drop k links)) one_less so_far) e
+  -- no link is left
+  pub end_at_begin : (left : List Link) (seen : Scan) → Passed links start left seen → length left ≡ 0 → seen ≡ scanned start 0 links
+  end_at_begin left seen so_far none = rw none at so_far.known
 
 -- the decision from what is known of the whole list
-pub decides : (links : List Link) (query : SlotQuery) (start seen : Scan) (r : Decision) → start ≡ begun query → seen ≡ scanned start 0 links → r ≡ concluded query (length links) seen → r ≡ decision links query
+pub decides : (links : List Link) (query : SlotQuery) (start seen : Scan) (r : Result Action Refusal) → start ≡ begun query → seen ≡ scanned start 0 links → r ≡ concluded query (length links) seen → r ≡ decision links query
 decides links query start seen r e₁ e₂ e₃ = e₃ ∙ rw (e₂, e₁) (decided links query)
 
 -- so are its numbers
-pub decides_answer : (links : List Link) (query : SlotQuery) (r : Decision) → r ≡ decision links query → answer_of r ≡ slot_answer links query
+pub decides_answer : (links : List Link) (query : SlotQuery) (r : Result Action Refusal) → r ≡ decision links query → answer_of r ≡ slot_answer links query
 unfolding slot_answer
 decides_answer links query r e = ap answer_of e

@@ -2,43 +2,38 @@
 use Prim.Native.Nat.{ℕ, zero, suc}
 use native.Mathlib.Omega.{arith}
 use mathlib.Core.Path.{◌≡◌, refl, sym, ap}
-use mathlib.Core.Bool.{Bool, true, false, cond, ◌&&◌}
+use mathlib.Core.Bool.{Bool, true, false, ◌&&◌}
 use mathlib.Core.List.{List, [], ◌∷◌}
+use Rattle.std.specs.Prelude.{Option, Some, None, Result, Ok}
 use Rattle.octets_spec.specs.Choice.{if_on, if_eq}
 use Rattle.octets_spec.proofs.ChoiceLaws.{by_test, if_off_lem, was_off}
+use Rattle.refusal.specs.declared.Refusal.{Refusal}
 use Rattle.remainder.specs.Remainder.{remainder_of}
 use Rattle.eb_record_spec.specs.declared.Link.{Link}
-use Rattle.slot_spec.specs.declared.Decision.{Decision}
-use Rattle.slot_spec.specs.declared.Decision.TheVariants.{Refused, Sleep, Transmit, Listen}
+use Rattle.slot_spec.specs.declared.Action.{Action}
+use Rattle.slot_spec.specs.declared.Action.TheVariants.{Sleep}
 use Rattle.slot_spec.specs.declared.SlotQuery.{SlotQuery}
-use Rattle.slot_spec.specs.declared.Found.{Found}
-use Rattle.slot_spec.specs.declared.Found.TheVariants.{Nothing, At}
+use Rattle.slot_spec.specs.declared.ActiveLink.{ActiveLink}
 use Rattle.slot_spec.specs.Claims.{NoneActive, SleepsExactlyWhenIdle, SomeSleepAndSomeDoNot}
 use Rattle.slot_spec.specs.Hopping.{channel_of}
 use Rattle.slot_spec.specs.Slot.{action, decision, first_active, is_active, limits, listen_on, option_bit, slot_offset, timeslots_below, transmit_on}
 
--- ---- what is found differs from nothing, and what is done from sleeping
-abbrev found_as : Found → ℕ
-found_as Nothing = 0
-found_as (At index offset) = 1
+-- a link that is found is not nothing
+some_found : (link : ActiveLink) → Some link ≡ None → ⊥
+some_found link e = cc
 
-abbrev done_as : Decision → ℕ
-done_as Refused = 1
-done_as Sleep = 0
-done_as (Transmit index channel) = 1
-done_as (Listen index channel) = 1
-
-some_found : (index offset : ℕ) → At index offset ≡ Nothing → ⊥
-some_found index offset e = let z : ◌≡◌ {A = ℕ} 1 0 = ap found_as e in omega arith
+-- a decision to sleep is not refused, and the action is to sleep
+slept_on : (action : Action) → ◌≡◌ {A = Result Action Refusal} (Ok action) (Ok Sleep) → action ≡ Sleep
+slept_on action e = cc
 
 -- ---- the first active link
-none_first : (slot bit index : ℕ) (links : List Link) → first_active slot bit index links ≡ Nothing → NoneActive slot bit links
+none_first : (slot bit index : ℕ) (links : List Link) → first_active slot bit index links ≡ None → NoneActive slot bit links
 unfolding first_active
 none_first slot bit index [] e i l a = absurd (omega arith)
-none_first slot bit index (link ∷ links) e zero l a = let w = was_off _ _ _ _ e (some_found _ _) in rw a at w.0
-none_first slot bit index (link ∷ links) e (suc i) l a = none_first slot bit (suc index) links (was_off _ _ _ _ e (some_found _ _)).1 i (omega arith) a
+none_first slot bit index (link ∷ links) e zero l a = let w = was_off _ _ _ _ e (some_found _) in rw a at w.0
+none_first slot bit index (link ∷ links) e (suc i) l a = none_first slot bit (suc index) links (was_off _ _ _ _ e (some_found _)).1 i (omega arith) a
 
-first_none : (slot bit index : ℕ) (links : List Link) → NoneActive slot bit links → first_active slot bit index links ≡ Nothing
+first_none : (slot bit index : ℕ) (links : List Link) → NoneActive slot bit links → first_active slot bit index links ≡ None
 unfolding first_active
 first_none slot bit index [] h = refl
 first_none slot bit index (link ∷ links) h =
@@ -48,18 +43,18 @@ first_none slot bit index (link ∷ links) h =
 -- ---- the action
 module _ (query : SlotQuery) where
   -- the action, with whether a frame waits as a variable
-  abbrev acted : Bool → Found → Found → Decision
+  abbrev acted : Bool → Option ActiveLink → Option ActiveLink → Action
   acted waits transmit receive = if_on waits (transmit_on query transmit (listen_on query receive)) (listen_on query receive)
 
-  slept : (waits : Bool) (transmit receive : Found) → acted waits transmit receive ≡ Sleep → (receive ≡ Nothing) × (waits ≡ true → transmit ≡ Nothing)
+  slept : (waits : Bool) (transmit receive : Option ActiveLink) → acted waits transmit receive ≡ Sleep → (receive ≡ None) × (waits ≡ true → transmit ≡ None)
   unfolding transmit_on listen_on if_on
-  slept true Nothing Nothing e = (refl, λ h. refl)
-  slept true Nothing (At index offset) e = absurd (let z : ◌≡◌ {A = ℕ} 1 0 = ap done_as e in omega arith)
-  slept true (At index offset) receive e = absurd (let z : ◌≡◌ {A = ℕ} 1 0 = ap done_as e in omega arith)
-  slept false transmit Nothing e = (refl, λ h. absurd (let z : ◌≡◌ {A = ℕ} 0 1 = ap (λ (b : Bool). cond b 1 0) h in omega arith))
-  slept false transmit (At index offset) e = absurd (let z : ◌≡◌ {A = ℕ} 1 0 = ap done_as e in omega arith)
+  slept true None None e = (refl, λ h. refl)
+  slept true None (Some link) e = absurd (cc)
+  slept true (Some link) receive e = absurd (cc)
+  slept false transmit None e = (refl, λ h. absurd (cc))
+  slept false transmit (Some link) e = absurd (cc)
 
-  sleeping : (waits : Bool) (transmit receive : Found) → receive ≡ Nothing → (waits ≡ true → transmit ≡ Nothing) → acted waits transmit receive ≡ Sleep
+  sleeping : (waits : Bool) (transmit receive : Option ActiveLink) → receive ≡ None → (waits ≡ true → transmit ≡ None) → acted waits transmit receive ≡ Sleep
   unfolding transmit_on listen_on if_on
   sleeping true transmit receive e f = rw (e, f refl)
   sleeping false transmit receive e f = rw e
@@ -69,11 +64,11 @@ unfolding decision action if_on
 sleeps_exactly_when_idle links query within = (
   λ e.
       let slot = slot_offset query in
-      let s = slept query query.waits (first_active slot 0 0 links) (first_active slot 1 0 links) (rw within at e) in
+      let s = slept query query.waits (first_active slot 0 0 links) (first_active slot 1 0 links) (slept_on _ (rw within at e)) in
       (none_first slot 1 0 links s.0, λ w. none_first slot 0 0 links (s.1 w)),
   λ idle.
       let slot = slot_offset query in
-      rw within (sleeping query query.waits (first_active slot 0 0 links) (first_active slot 1 0 links) (first_none slot 1 0 links idle.0) (λ w. first_none slot 0 0 links (idle.1 w))),
+      rw within (ap Ok (sleeping query query.waits (first_active slot 0 0 links) (first_active slot 1 0 links) (first_none slot 1 0 links idle.0) (λ w. first_none slot 0 0 links (idle.1 w)))),
 )
 
 pub some_sleep_and_some_do_not : SomeSleepAndSomeDoNot

@@ -1,8 +1,8 @@
 -- When the slot decision sleeps (docs/RULES.md, Slot and channel). Assumes nothing.
-use Rattle.std.specs.Prelude.{ℕ, ◌<◌, ◌≡◌, Bool, true, false, List, [], ◌∷◌, length, get_or}
+use Rattle.std.specs.Prelude.{ℕ, ◌<◌, ◌≡◌, Bool, true, false, List, [], ◌∷◌, Ok, length, get_or}
 use Rattle.eb_record_spec.specs.declared.Link.{Link}
 use Rattle.eb_record_spec.specs.Record.{blank_link}
-use Rattle.slot_spec.specs.declared.Decision.TheVariants.{Sleep, Listen}
+use Rattle.slot_spec.specs.declared.Action.TheVariants.{Sleep, Listen}
 use Rattle.slot_spec.specs.declared.SlotQuery.{SlotQuery}
 use Rattle.slot_spec.specs.Slot.{decision, is_active, limits, option_bit, slot_offset, timeslots_below}
 
@@ -18,8 +18,8 @@ Idle slot waits links = NoneActive slot 1 links × (waits ≡ true → NoneActiv
 abbrev pub SleepsExactlyWhenIdle : Type 0
 SleepsExactlyWhenIdle =
     (links : List Link) (query : SlotQuery) → limits query (length links) (timeslots_below query.size links) ≡ true →
-    (decision links query ≡ Sleep → Idle (slot_offset query) query.waits links)
-    × (Idle (slot_offset query) query.waits links → decision links query ≡ Sleep)
+    (decision links query ≡ Ok Sleep → Idle (slot_offset query) query.waits links)
+    × (Idle (slot_offset query) query.waits links → decision links query ≡ Ok Sleep)
 
 -- both happen within the limits: a link to transmit and receive in slot 0 of 11 sleeps at ASN 1, and listens at ASN 0
 abbrev pub SomeSleepAndSomeDoNot : Type 0
@@ -27,4 +27,4 @@ SomeSleepAndSomeDoNot =
     let links : List Link = record { timeslot = 0; channel_offset = 0; options = 15 } ∷ [] in
     let sleeper : SlotQuery = record { size = 11; id = 0; asn = 1; waits = true } in
     let listener : SlotQuery = record { size = 11; id = 0; asn = 0; waits = false } in
-    (limits sleeper 1 (timeslots_below 11 links) ≡ true) × (decision links sleeper ≡ Sleep) × (decision links listener ≡ Listen 0 16)
+    (limits sleeper 1 (timeslots_below 11 links) ≡ true) × (decision links sleeper ≡ Ok Sleep) × (decision links listener ≡ Ok (Listen 0 16))

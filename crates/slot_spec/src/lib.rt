@@ -1,16 +1,15 @@
-// What a tag does in a slot: the decision, how a list of links is gone through for it, and the decision's numbers; a theorem about it.
+// What a tag does in a slot, how a list of links is gone through to decide it, and the numbers of the decision; a theorem about it.
 #![tactic(auto)]
 
 ghost use Rattle.slot_spec.specs.Claims.{SleepsExactlyWhenIdle, SomeSleepAndSomeDoNot};
 
-// What is done in a slot: nothing, because the schedule was refused or because the slot is free, or a frame is sent or awaited on
-// the link at an index of the list, on a channel.
-#[derive(Clone, Copy)]
-pub enum Decision {
-    Refused,
+// What a tag does in a slot: nothing, because the slot is free, or a frame is sent or awaited on the link at an index of the list, on a
+// channel. The decision is one of these, or the refusal of the schedule.
+#[derive(Clone, Copy, Debug, PartialEq, Eq)]
+pub enum Action {
     Sleep,
-    Transmit(u8, u8),
-    Listen(u8, u8),
+    Transmit { index: u8, channel: u8 },
+    Listen { index: u8, channel: u8 },
 }
 
 // What a decision is asked beside the links: the slotframe's size, the hopping sequence ID, the ASN of the slot, and whether a frame waits
@@ -23,7 +22,8 @@ pub struct SlotQuery {
     pub waits: bool,
 }
 
-// The numbers of a decision: of the refusal, of the action (0 sleep, 1 transmit, 2 listen), the channel and the link's index.
+// The numbers of a decision: of the refusal, of the action (0 sleep, 1 transmit, 2 listen), the channel and the link's index. It is C's
+// struct `tesolvagna_slot`, so the action is a number.
 #[repr(C)]
 #[derive(Clone, Copy)]
 pub struct SlotAnswer {
@@ -33,18 +33,10 @@ pub struct SlotAnswer {
     pub index: u8,
 }
 
-// What a search through the list has found: the index and the channel offset of a link.
-#[derive(Clone, Copy)]
-pub enum Found {
-    Nothing,
-    At(u8, u16),
-}
-
-// The same while the search goes on, as numbers that each turn makes anew (an enum would be copied with its padding).
-#[derive(Clone, Copy)]
-pub struct Search {
-    pub found: bool,
-    pub index: usize,
+// A link that a search through the list has found: its index and its channel offset.
+#[derive(Clone, Copy, Debug, PartialEq, Eq)]
+pub struct ActiveLink {
+    pub index: u8,
     pub channel_offset: u16,
 }
 
@@ -55,8 +47,8 @@ pub struct Scan {
     pub size: u32,
     pub slot: u32,
     pub below: bool,
-    pub transmit: Search,
-    pub receive: Search,
+    pub transmit: Option<ActiveLink>,
+    pub receive: Option<ActiveLink>,
 }
 
 // Cites each theorem, so that the gate fails if the proof of one goes.
