@@ -1,114 +1,65 @@
 // Two beacons side by side: reads both frames, and lists the fields in which their records differ.
-#![tactic(auto)]
+#![tactic(auto, using(crate::proofs::CompareLaws::comparing))]
 
 ghost use Rattle.std.specs.Prelude.{◌≡◌, ◌+◌, ◌<◌};
 ghost use Rattle.eb_fields_spec.specs.Fields.{content_at};
-ghost use Rattle.eb_read_spec.specs.Read.{read_frame};
-ghost use Rattle.compare_spec.specs.Compare.{differences as Compare·differences, blank_difference, list_of, no_list, compared as compare_compared};
+ghost use Rattle.eb_read_spec.specs.Read.{read_frame, answer_of};
+ghost use Rattle.compare_spec.specs.Compare.{differences, comparison_of, compared as what_both_give};
 ghost use Rattle.compare_spec.specs.Claims.{NoDifferenceWhenEqual, EachDiffers, NoneIsLeftOut, InOrder, ListedWhenBothDone};
-ghost use Rattle.compare_frames.specs.UpTo.{up_to, with_row};
+ghost use Rattle.compare_frames.specs.UpTo.{up_to};
 
-use compare_spec::{Comparison, Difference, Differences};
-use eb_read_spec::ReadAnswer;
+use arrayvec::ArrayVec;
+use compare_spec::{Difference, Differences, Refused};
 use eb_record_spec::Beacon;
-
-// What an answer holds behind its list.
-fn blank_difference() -> Difference
-    ensures { result ≡ blank_difference }
-{
-    let first = eb_fields::absent();
-    let second = eb_fields::absent();
-    Difference {
-        place: 0,
-        first,
-        second,
-    }
-}
-
-// No list.
-fn no_list() -> Differences
-    ensures { result ≡ no_list }
-{
-    Differences {
-        listed: false,
-        count: 0,
-        entries: [blank_difference(); 77],
-    }
-}
-
-// The list with one more field behind it.
-fn with_row(found: Differences, row: Difference) -> Differences
-    requires { found.count < 77 }
-    ensures { result ≡ with_row found row }
-{
-    let at = found.count;
-    let mut more = found;
-    more.entries[at] = row;
-    more.count = at + 1;
-    more
-}
+use refusal::Refusal;
 
 // The list of the fields up to a place that differ becomes that of the fields up to the next place.
-fn with_field(found: Differences, one: Beacon, other: Beacon, place: usize) -> Differences
-    requires { (place < 77) × (found ≡ list_of (up_to one other place)) }
-    ensures { result ≡ list_of (up_to one other (place + 1)) }
+fn with_field(found: &mut Differences, one: &Beacon, other: &Beacon, place: usize)
+    requires { (place < 77) × (found.old.items ≡ up_to one.now other.now place) }
+    ensures { found.new.items ≡ up_to one.now other.now (place + 1) }
 {
-    let first = eb_fields::content(one, place);
-    let second = eb_fields::content(other, place);
-    if eb_fields::same(first, second) {
-        return found;
-    }
+    let first = eb_fields::content(*one, place);
+    let second = eb_fields::content(*other, place);
     let row = Difference {
         place,
         first,
         second,
     };
-    with_row(found, row)
+    if !eb_fields::same(first, second) {
+        found.push(row);
+    }
 }
 
 // The fields in which two records differ, in order, each with both contents.
-pub fn differences(one: Beacon, other: Beacon) -> Differences
-    ensures { result ≡ list_of (Compare·differences one other) }
+pub fn differences(one: &Beacon, other: &Beacon) -> Differences
+    ensures { result.items ≡ differences one.now other.now }
 {
-    let mut found = no_list();
-    found.listed = true;
-    let mut place = 0;
-    while place < eb_fields_spec::FIELDS {
-        found = with_field(found, one, other, place);
-        place += 1;
+    let mut found = ArrayVec::new();
+    for place in 0..eb_fields_spec::FIELDS {
+        with_field(&mut found, one, other, place);
     }
     found
 }
 
-// What two readings come to: both numbers, and a list if both are done.
-fn compared(one: ReadAnswer, other: ReadAnswer) -> Comparison
-    ensures { result ≡ compare_compared one other }
+// What two readings come to: a list if both are done, else why there is none.
+fn compared(
+    one: Result<Beacon, Refusal>,
+    other: Result<Beacon, Refusal>,
+) -> Result<Differences, Refused>
+    ensures { comparison_of result ≡ what_both_give (answer_of one) (answer_of other) }
 {
-    if one.number != refusal::DONE {
-        return Comparison {
-            first: one.number,
-            second: other.number,
-            differences: no_list(),
-        };
-    }
-    if other.number != refusal::DONE {
-        return Comparison {
-            first: one.number,
-            second: other.number,
-            differences: no_list(),
-        };
-    }
-    Comparison {
-        first: one.number,
-        second: other.number,
-        differences: differences(one.beacon, other.beacon),
+    match (one, other) {
+        (Ok(one), Ok(other)) => Ok(differences(&one, &other)),
+        (Err(first), Ok(_)) => Err(Refused::First(first)),
+        (Ok(_), Err(second)) => Err(Refused::Second(second)),
+        (Err(first), Err(second)) => Err(Refused::Both(first, second)),
     }
 }
 
-// Reads two frames and answers both numbers and, if both are 0, the fields in which their records differ. No field exactly when the records
-// are equal; every field of the list differs, none is left out, and they are in order.
-pub fn compare(first: &[u8], second: &[u8]) -> Comparison
-    ensures answer { result ≡ compare_compared (read_frame first.now) (read_frame second.now) }
+// Reads two frames and answers, if both are done, the fields in which their records differ, else which are refused. No field exactly when the
+// records are equal; every field of the list differs, none is left out, and they are in order.
+pub fn compare(first: &[u8], second: &[u8]) -> Result<Differences, Refused>
+    ensures answer { comparison_of result ≡ what_both_give (read_frame first.now) (read_frame second.now) }
     ensures listed { ListedWhenBothDone }
     ensures none_when_equal { NoDifferenceWhenEqual }
     ensures each { EachDiffers }

@@ -10,12 +10,10 @@ use lib.ListN.{length, replicate, length-append, length-replicate}
 use Rattle.octets_spec.specs.Choice.{if_eq}
 use Rattle.octets_spec.proofs.ChoiceLaws.{if_eq_lem, if_ne_lem, by_eq}
 use Rattle.refusal.specs.Refusal.{done}
-use Rattle.eb_read_spec.specs.declared.ReadAnswer.{ReadAnswer}
+use Rattle.eb_read_spec.specs.Read.{ReadAnswer}
 use Rattle.compare_spec.specs.declared.Difference.{Difference}
-use Rattle.compare_spec.specs.declared.Differences.{Differences}
-use Rattle.compare_spec.specs.declared.Comparison.{Comparison}
 use Rattle.compare_spec.specs.Claims.{ListedWhenBothDone}
-use Rattle.compare_spec.specs.Compare.{differences, blank_difference, list_of, no_list, compared}
+use Rattle.compare_spec.specs.Compare.{Comparison, Differences, differences, blank_difference, list_of, no_list, compared}
 
 -- ---- each way out, as code meets it
 module _ (one other : ReadAnswer) (d : Differences) where

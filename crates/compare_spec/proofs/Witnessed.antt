@@ -9,7 +9,7 @@ use Rattle.octets_spec.specs.Choice.{if_on}
 use Rattle.octets_spec.specs.Number.{le_bytes}
 use Rattle.mac_header_spec.specs.declared.Address.TheVariants.{Short, Extended}
 use Rattle.eb_record_spec.specs.Form.{address_fits}
-use Rattle.eb_read_spec.specs.declared.ReadAnswer.{ReadAnswer}
+use Rattle.eb_read_spec.specs.Read.{ReadAnswer}
 use Rattle.eb_read_spec.specs.Witnesses.{shortest, shortest_record}
 use Rattle.eb_read_spec.proofs.Witnessed.{shortest_is_read, shortest_done, shortest_bytes}
 use Rattle.eb_write_spec.specs.Frame.{sequence_bytes, address_bytes, template_size, group_size, joining_size, frame_length}

@@ -4,8 +4,7 @@ use mathlib.Core.List.{List, [], ◌∷◌, Mem}
 use Rattle.refusal.specs.Refusal.{done}
 use Rattle.mac_header_spec.specs.declared.Address.TheVariants.{Short, Extended}
 use Rattle.eb_record_spec.specs.declared.Beacon.{Beacon}
-use Rattle.eb_read_spec.specs.declared.ReadAnswer.{ReadAnswer}
-use Rattle.eb_read_spec.specs.Read.{read_frame}
+use Rattle.eb_read_spec.specs.Read.{ReadAnswer, read_frame}
 use Rattle.eb_read_spec.specs.Claims.{Bytes}
 use Rattle.eb_read_spec.specs.Witnesses.{shortest_record}
 use Rattle.eb_round_trip_spec.specs.ReadBack.{Writable}

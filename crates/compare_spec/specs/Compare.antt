@@ -1,16 +1,17 @@
 -- Two records side by side: the fields in which they differ, and what comparing two frames answers (docs/RULES.md, Comparing two beacons).
 -- Assumes nothing.
-use Rattle.std.specs.Prelude.{ℕ, suc, ◌-◌, true, false, length, replicate}
+use Rattle.std.specs.Prelude.{ℕ, suc, ◌-◌, Bool, true, false, Result, Ok, Err, length, replicate}
 use mathlib.Core.List.{List, [], ◌∷◌, ◌++◌, filter}
+use Rattle.arrayvec.specs.ArrayVec.{ArrayVec}
 use Rattle.octets_spec.specs.Choice.{if_eq}
-use Rattle.refusal.specs.Refusal.{done}
+use Rattle.refusal.specs.Refusal.{done, number_of}
 use Rattle.eb_record_spec.specs.declared.Beacon.{Beacon}
-use Rattle.eb_read_spec.specs.declared.ReadAnswer.{ReadAnswer}
+use Rattle.eb_read_spec.specs.Read.{ReadAnswer}
 use Rattle.eb_fields_spec.specs.Content.{absent_content}
 use Rattle.eb_fields_spec.specs.Fields.{Field, fields, field_count}
 use Rattle.compare_spec.specs.declared.Difference.{Difference}
-use Rattle.compare_spec.specs.declared.Differences.{Differences}
-use Rattle.compare_spec.specs.declared.Comparison.{Comparison}
+use Rattle.compare_spec.specs.declared.Refused.{Refused}
+use Rattle.compare_spec.specs.declared.Refused.TheVariants.{First, Second, Both}
 use Rattle.compare_spec.specs.Decide.{Differs, differs?}
 
 -- two lists of fields side by side, row by row, each with its place
@@ -24,6 +25,18 @@ unfoldable pub differences : Beacon → Beacon → List Difference
 differences one other = filter {p = Differs} differs? (beside 0 (fields one) (fields other))
 
 -- ---- the answer
+-- the fields that differ, in order: the first `count` of `entries`; where there is no list, `listed` is false: that is not the list of none
+pub record Differences : Type 0 where
+  pub listed : Bool
+  pub count : ℕ
+  pub entries : List Difference
+
+-- what comparing two frames answers: the number of each frame, and where both are 0 the list
+pub record Comparison : Type 0 where
+  pub first : ℕ
+  pub second : ℕ
+  pub differences : Differences
+
 -- what an answer holds behind its list
 abbrev pub blank_difference : Difference
 blank_difference = record { place = 0; first = absent_content; second = absent_content }
@@ -43,3 +56,10 @@ compared one other = record {
   second = other.number;
   differences = if_eq one.number done (if_eq other.number done (list_of (differences one.beacon other.beacon)) no_list) no_list;
 }
+
+-- what is answered: a list where both frames are done, else the number of each, which is that of what is done where it is not refused
+abbrev pub comparison_of : Result (ArrayVec Difference) Refused → Comparison
+comparison_of (Ok found) = record { first = done; second = done; differences = list_of found.items }
+comparison_of (Err (First first)) = record { first = number_of first; second = done; differences = no_list }
+comparison_of (Err (Second second)) = record { first = done; second = number_of second; differences = no_list }
+comparison_of (Err (Both first second)) = record { first = number_of first; second = number_of second; differences = no_list }

@@ -3,30 +3,27 @@
 
 ghost use Rattle.compare_spec.specs.Claims.{SameFieldsSameRecord, NoDifferenceWhenEqual, EachDiffers, NoneIsLeftOut, InOrder, ListedWhenBothDone, NamesStandInEveryList, ThereAreSuch};
 
+use arrayvec::ArrayVec;
 use eb_fields_spec::Content;
+use refusal::Refusal;
 
 // A field that differs: its place in the list of fields, the content on each side.
-#[derive(Clone, Copy)]
+#[derive(Clone, Copy, Debug, Default, PartialEq, Eq)]
 pub struct Difference {
     pub place: usize,
     pub first: Content,
     pub second: Content,
 }
 
-// The fields that differ, in order: the first `count` of `entries`. Where there is no list, `listed` is false: that is not the list of none.
-#[derive(Clone, Copy)]
-pub struct Differences {
-    pub listed: bool,
-    pub count: usize,
-    pub entries: [Difference; 77],
-}
+// The fields that differ, in order. There is room for every field.
+pub type Differences = ArrayVec<Difference, 77>;
 
-// What comparing two frames answers: the number of each frame, and where both are 0 the list.
-#[derive(Clone, Copy)]
-pub struct Comparison {
-    pub first: u8,
-    pub second: u8,
-    pub differences: Differences,
+// Why there is no list: which frames are refused, and why.
+#[derive(Clone, Copy, Debug, PartialEq, Eq)]
+pub enum Refused {
+    First(Refusal),
+    Second(Refusal),
+    Both(Refusal, Refusal),
 }
 
 // Cites each theorem about the list of fields and about differences, so that the gate fails if the proof of one goes.

@@ -6,7 +6,8 @@ use mathlib.Core.List.{List}
 use native.Mathlib.Nat.{zero-add}
 use native.Mathlib.Omega.{arith}
 use lib.Dec.{ltb}
-use lib.ListN.{length, get_or, replicate, get_or-eq_default}
+use lib.ListN.{length, get_or, get_or-eq_default}
+use Rattle.std.specs.Int.{from_bool}
 use Rattle.octets_spec.specs.Choice.{if_on, if_eq}
 use Rattle.octets_spec.proofs.ChoiceLaws.{if_ne_lem}
 use Rattle.mac_header_spec.specs.declared.SequenceNumber.{SequenceNumber}
@@ -22,30 +23,26 @@ use Rattle.eb_record_spec.specs.declared.Beacon.{Beacon}
 use Rattle.eb_fields_spec.specs.declared.Content.{Content}
 use Rattle.eb_fields_spec.specs.Content.{absent_content, number_content, address_content, octets_content, sequence_content, content_if, flag_content}
 use Rattle.eb_fields_spec.specs.Fields.{Field, no_field, header_fields, synchronization_fields, timeslot_fields, slotframe_fields, joining_fields, timing_content, timing_names, link_at, link_content, link_fields, content_in, content_at}
-use Rattle.eb_fields_spec.proofs.PlaceLaws.{from_2, from_3, from_7, three_on, of_header, of_synchronization, of_timeslot, of_hopping, of_slotframe, of_joining, timing_at_lem, link_at_lem, link_row_lem}
-use Rattle.eb_fields.specs.Part.{link_number, links_content}
+use Rattle.eb_fields_spec.proofs.PlaceLaws.{from_2, from_3, from_7, three_on, of_header, of_synchronization, of_timeslot, of_hopping, of_slotframe, of_joining, timing_at_lem, link_at_lem, row_of_link}
+use Rattle.eb_fields.specs.Part.{plain_content, link_number, links_content}
 
 abbrev content_of : Field → Content
 content_of f = f.content
 
 -- ---- contents
--- a content of this kind that has a number or nothing
-abbrev plain : ℕ → ℕ → Content
-plain kind value = record { kind = kind; length = 0; number = value; octets = replicate 16 0 }
-
-pub absent_made : plain 0 0 ≡ absent_content
+pub absent_made : plain_content 0 0 ≡ absent_content
 unfolding absent_content
 absent_made = refl
 
-pub number_made : (n : ℕ) → plain 1 n ≡ number_content n
+pub number_made : (n : ℕ) → plain_content 1 n ≡ number_content n
 unfolding number_content
 number_made n = refl
 
-pub short_made : (a : Address) (n : ℕ) → a ≡ Short n → plain 2 n ≡ address_content a
+pub short_made : (a : Address) (n : ℕ) → a ≡ Short n → plain_content 2 n ≡ address_content a
 unfolding address_content
 short_made a n e = rw e refl
 
-pub extended_made : (a : Address) (n : ℕ) → a ≡ Extended n → plain 3 n ≡ address_content a
+pub extended_made : (a : Address) (n : ℕ) → a ≡ Extended n → plain_content 3 n ≡ address_content a
 unfolding address_content
 extended_made a n e = rw e refl
 
@@ -66,14 +63,11 @@ module _ (r : Content) where
   unfolding content_if if_on
   is_absent there content e h = rw e h
 
-  module _ (there set : Bool) where
-    pub flag_set : set ≡ true → r ≡ content_if there (number_content 1) → r ≡ content_if there (flag_content set)
-    unfolding flag_content if_on
-    flag_set e h = rw e h
-
-    pub flag_clear : set ≡ false → r ≡ content_if there (number_content 0) → r ≡ content_if there (flag_content set)
-    unfolding flag_content if_on
-    flag_clear e h = rw e h
+-- a flag is as the number that the library gives for it
+pub flag_made : (r : Content) (set : Bool) (n : ℕ) → n ≡ from_bool set → r ≡ number_content n → r ≡ flag_content set
+unfolding flag_content if_on
+flag_made r true n e h = rw e at h
+flag_made r false n e h = rw e at h
 
 pub octets_made : (n : ℕ) (l : List ℕ) → ◌≡◌ {A = Content} (record { kind = 4; length = n; number = 0; octets = l }) (octets_content n l)
 unfolding octets_content
@@ -131,7 +125,7 @@ module _ (r : Content) (t : TimeslotTemplate) (i : ℕ) where
 
 module _ (f : Slotframe) (i : ℕ) where
   -- which of a link's numbers a row has
-  link_number_lem : (place part : ℕ) → part < 3 → (link_row_lem f place part).content ≡ link_content f place (link_number (link_at f place) part)
+  link_number_lem : (place part : ℕ) → part < 3 → (row_of_link f place part).content ≡ link_content f place (link_number (link_at f place) part)
   unfolding link_number if_eq
   link_number_lem place zero h = refl
   link_number_lem place (suc zero) h = refl
@@ -146,8 +140,8 @@ module _ (f : Slotframe) (i : ℕ) where
     pub link_row : (n : ℕ) → n ≡ link_number (link_at f place) (i % 3) → place < 16 → r ≡ content_if (ltb place f.count) (number_content n) → r ≡ links_content f i
     unfolding links_content link_content
     link_row n n-is h e =
-        let there : content_in (link_fields f 0 16) i ≡ (link_row_lem f (0 + i / 3) (i % 3)).content = ap content_of (link_at_lem f 0 16 i (omega (arith, h, place_is))) in
-        let at_place : content_in (link_fields f 0 16) i ≡ (link_row_lem f place (i % 3)).content = rw (zero-add (i / 3), ← place_is) at there in
+        let there : content_in (link_fields f 0 16) i ≡ (row_of_link f (0 + i / 3) (i % 3)).content = ap content_of (link_at_lem f 0 16 i (omega (arith, h, place_is))) in
+        let at_place : content_in (link_fields f 0 16) i ≡ (row_of_link f place (i % 3)).content = rw (zero-add (i / 3), ← place_is) at there in
         rw n-is at e ∙ sym (at_place ∙ link_number_lem place (i % 3) (omega arith))
 
 -- ---- the fields of each element among all fields
@@ -176,6 +170,6 @@ module _ (r : Content) (b : Beacon) (i : ℕ) where
   unfolding content_at
   joining_row h e = e ∙ sym (ap content_of (of_joining b i h))
 
-pub ruleset contents = (absent_made, number_made, short_made, extended_made, octets_made, sequence_absent, sequence_number_lem, is_there_lem, is_absent, flag_set, flag_clear)
+pub ruleset contents = (absent_made, number_made, short_made, extended_made, octets_made, sequence_absent, sequence_number_lem, is_there_lem, is_absent, flag_made)
 
 pub ruleset rows = (first_number, second_number, third_number, in_place, synchronization_end_lem, header_end, slotframe_end_lem, joining_end_lem, timing_end, timing_row, link_end, link_row, header_row, synchronization_row, timeslot_row, hopping_row, slotframe_row, joining_row)

@@ -119,16 +119,16 @@ timing_at_lem t place (name ∷ names) (suc i) h =
 
 -- ---- the rows of links
 -- the row of a place's first, second or third number
-abbrev pub link_row_lem : Slotframe → ℕ → ℕ → Field
-link_row_lem f place zero = row (link_field_name place link_timeslot_name) (link_content f place (link_at f place).timeslot)
-link_row_lem f place (suc zero) = row (link_field_name place link_offset_name) (link_content f place (link_at f place).channel_offset)
-link_row_lem f place (suc (suc part)) = row (link_field_name place link_options_name) (link_content f place (link_at f place).options)
+abbrev pub row_of_link : Slotframe → ℕ → ℕ → Field
+row_of_link f place zero = row (link_field_name place link_timeslot_name) (link_content f place (link_at f place).timeslot)
+row_of_link f place (suc zero) = row (link_field_name place link_offset_name) (link_content f place (link_at f place).channel_offset)
+row_of_link f place (suc (suc part)) = row (link_field_name place link_options_name) (link_content f place (link_at f place).options)
 
-pub link_at_lem : (f : Slotframe) (place places i : ℕ) → i / 3 < places → get_or (link_fields f place places) i no_field ≡ link_row_lem f (place + i / 3) (i % 3)
+pub link_at_lem : (f : Slotframe) (place places i : ℕ) → i / 3 < places → get_or (link_fields f place places) i no_field ≡ row_of_link f (place + i / 3) (i % 3)
 link_at_lem f place zero i h = absurd (omega (arith, h))
-link_at_lem f place (suc places) zero h = ap (λ (k : ℕ). link_row_lem f k 0) (sym (add-zero place))
-link_at_lem f place (suc places) (suc zero) h = ap (λ (k : ℕ). link_row_lem f k 1) (sym (add-zero place))
-link_at_lem f place (suc places) (suc (suc zero)) h = ap (λ (k : ℕ). link_row_lem f k 2) (sym (add-zero place))
+link_at_lem f place (suc places) zero h = ap (λ (k : ℕ). row_of_link f k 0) (sym (add-zero place))
+link_at_lem f place (suc places) (suc zero) h = ap (λ (k : ℕ). row_of_link f k 1) (sym (add-zero place))
+link_at_lem f place (suc places) (suc (suc zero)) h = ap (λ (k : ℕ). row_of_link f k 2) (sym (add-zero place))
 link_at_lem f place (suc places) (suc (suc (suc i))) h =
     let whole : place + suc (suc (suc i)) / 3 ≡ suc place + i / 3 = omega arith in
     let part : suc (suc (suc i)) % 3 ≡ i % 3 = omega arith in

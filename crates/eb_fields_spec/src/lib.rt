@@ -3,7 +3,7 @@
 
 ghost use Rattle.std.specs.Prelude.{◌≡◌};
 
-// The kinds of content.
+// The kinds of content. They are numbers, since C has them (`TESOLVAGNA_CONTENT_ABSENT` and the others).
 pub const ABSENT: u32 = 0;
 
 pub const NUMBER: u32 = 1;
@@ -28,9 +28,10 @@ pub const SLOTFRAME: usize = 19;
 pub const JOINING: usize = 70;
 
 // The content of a field: its kind, and what that kind has. A number, and an address, short or extended, is in `number`; octets are the first
-// `length` of `octets`. What a kind has not is 0. There is no padding.
+// `length` of `octets`. What a kind has not is 0. There is no padding. It is C's struct `tesolvagna_content`, so the kind is a number with all
+// values beside it.
 #[repr(C)]
-#[derive(Clone, Copy)]
+#[derive(Clone, Copy, Debug, Default, PartialEq, Eq)]
 pub struct Content {
     pub kind: u32,
     pub length: u32,
