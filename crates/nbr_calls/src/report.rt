@@ -1,28 +1,22 @@
 // Report: counts attempts to reach a neighbour. The rules are those of docs/RULES.md, Neighbours.
-ghost use Rattle.std.specs.Prelude.{◌≡◌, cond, ◌≤◌};
-ghost use Rattle.nbr_table_spec.specs.Calls.{reported};
+ghost use Rattle.std.specs.Prelude.{◌≡◌, ◌<◌, ◌≤◌, IfOk};
+ghost use Rattle.nbr_table_spec.specs.Calls.{answer_of, reported};
 ghost use Rattle.nbr_table_spec.specs.Changes.{attempted as attemptedPlace, with_counters};
-ghost use Rattle.nbr_table_spec.specs.Stores.{reporting as reportingOf};
+ghost use Rattle.nbr_table_spec.specs.Stores.{change_of, reporting as reportingOf};
 
 use nbr_metric_spec::Place;
-use nbr_table_spec::{Answer, Change};
+use nbr_table_spec::{MOST_COUNTED, MOST_REPORTED, Store, Table};
+use refusal::Refusal;
 
 // A place with other counters.
 fn with_counters(place: Place, attempts: u16, acked: u16) -> Place
     ensures { result ≡ with_counters attempts acked place }
 {
-    let mut changed = place;
-    changed.attempts = attempts;
-    changed.acked = acked;
-    changed
-}
-
-// 1 where the attempts were acknowledged, else 0.
-fn one_if(acked: bool) -> u16
-    ensures value { result ≡ cond acked 1 0 }
-    ensures bound { result ≤ 1 }
-{
-    if acked { 1 } else { 0 }
+    Place {
+        attempts,
+        acked,
+        ..place
+    }
 }
 
 // A report on a place within its limits: past 255 the counters are halved first.
@@ -32,8 +26,8 @@ fn attempted(place: Place, attempts: u16, acked: bool) -> Place
 {
     let sent = place.attempts;
     let heard = place.acked;
-    let more = one_if(acked);
-    if nbr_table_spec::MOST_COUNTED < sent + attempts {
+    let more = u16::from(acked);
+    if MOST_COUNTED < sent + attempts {
         return with_counters(place, sent / 2 + attempts, heard / 2 + more);
     }
     with_counters(place, sent + attempts, heard + more)
@@ -41,37 +35,35 @@ fn attempted(place: Place, attempts: u16, acked: bool) -> Place
 
 // What a report stores, on these places. Other numbers of attempts than 1 to 4 are refused with 8, as is a place
 // over its limits, and an unknown neighbour with 10.
-pub fn reporting(places: [Place; 32], id: u64, attempts: u32, acked: bool) -> Change
-    ensures { result ≡ reportingOf places id attempts acked }
+pub fn reporting(
+    places: &[Place; 32],
+    id: u64,
+    attempts: u32,
+    acked: bool,
+) -> Result<Store, Refusal>
+    ensures change { change_of result ≡ reportingOf places.now id attempts acked }
+    ensures inside { IfOk result (λ store. store.at < 32) }
 {
-    if attempts < 1 {
-        return crate::refuse(refusal::OUT_OF_LIMITS);
-    }
-    if nbr_table_spec::MOST_REPORTED < attempts {
-        return crate::refuse(refusal::OUT_OF_LIMITS);
+    if attempts < 1 || MOST_REPORTED < attempts {
+        return Err(Refusal::OutOfLimits);
     }
     let found = nbr_table::search::seek(places, id);
-    let at = found.at;
-    if at < nbr_table_spec::PLACES {
-        let place = places[at];
-        if nbr_table::place_limits::is_unfit(place) {
-            return crate::refuse(refusal::OUT_OF_LIMITS);
-        }
-        return Change {
-            number: refusal::DONE,
-            at,
-            place: attempted(place, attempts as u16, acked),
-        };
+    let at = found.at.ok_or(Refusal::UnknownNeighbour)?;
+    let before = places[at];
+    if nbr_table::place_limits::is_unfit(&before) {
+        return Err(Refusal::OutOfLimits);
     }
-    crate::refuse(refusal::UNKNOWN_NEIGHBOUR)
+    let place = attempted(before, attempts as u16, acked);
+    Ok(Store { at, place })
 }
 
 // Counts 1 to 4 attempts to reach a neighbour, acknowledged or not. A table that breaks a rule and other numbers of attempts
 // are refused with 8, a neighbour that is not in the table with 10.
-pub fn report(table: nbr_table_spec::Table, id: u64, attempts: u32, acked: bool) -> Answer
-    ensures { result ≡ reported table id attempts acked }
+pub fn report(table: Table, id: u64, attempts: u32, acked: bool) -> Result<Table, Refusal>
+    ensures { answer_of table result ≡ reported table id attempts acked }
 {
-    let places = table.places;
-    let parent = table.parent;
-    crate::store(table, reporting(places, id, attempts, acked), parent)
+    let mut after = crate::sound(table)?;
+    let Store { at, place } = reporting(&after.places, id, attempts, acked)?;
+    after.places[at] = place;
+    Ok(after)
 }

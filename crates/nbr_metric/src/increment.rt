@@ -1,13 +1,6 @@
 // The increment of a neighbour: what a link adds to the rank (docs/RULES.md, Neighbours).
-ghost use Rattle.std.specs.Prelude.{◌≡◌, ◌-◌, ◌<◌, ◌≤◌, ◌^◌};
+ghost use Rattle.std.specs.Prelude.{◌≡◌, ◌<◌, ◌≤◌, ◌^◌};
 ghost use Rattle.nbr_metric_spec.specs.Metric.{IncrementIsCeiling, IncrementOfNone, IsIncrement, increment as incrementOf};
-
-// The difference, or 0 where the second number is the greater.
-pub fn minus(from: u32, less: u32) -> u32
-    ensures { result ≡ from - less }
-{
-    if from < less { 0 } else { from - less }
-}
 
 // The increment of a neighbour with so many attempts and acknowledged ones: the smallest whole number not below
 // 256·(3t - 2a)/a; where a is 0, FRESH_INCREMENT before the first attempt and 0 after it.
@@ -24,7 +17,8 @@ pub fn increment(attempts: u16, acked: u16) -> u32
         }
         return 0;
     }
-    let sent = crate::wide(attempts);
-    let heard = crate::wide(acked);
-    (256 * minus(3 * sent, 2 * heard) + (heard - 1)) / heard
+    let sent = u32::from(attempts);
+    let heard = u32::from(acked);
+    let excess = (3 * sent).saturating_sub(2 * heard);
+    (256 * excess).div_ceil(heard)
 }

@@ -1,8 +1,11 @@
 -- The laws of the metric: each way out of its functions, as the code meets it (the rulesets at the end), and what the crates above rest on
--- (`cost-above-rank`, `cost-from`, `cost-to`, `fresh-neighbour`, `unanswered-is-not`): nothing there depends on the increment's form. Assumes nothing.
+-- (`cost_above_rank`, `cost_from`, `cost_to`, `fresh_neighbour`, `unanswered_is_not`): nothing there depends on the increment's form. Assumes nothing.
 use Prim.Native.Nat.{ℕ, suc, ◌+◌, ◌*◌, ◌-◌, ◌/◌, ◌<◌, ◌≤◌}
-use native.Mathlib.Nat.{lt-div-mul-add, div-lt_iff_lt-mul, div-le_self, lt_of_mul-lt-mul_right, suc-mul}
+use native.Mathlib.Nat.{lt-div-mul-add, div-lt_iff_lt-mul, lt_of_mul-lt-mul_right, suc-mul}
 use native.Mathlib.Omega.{arith}
+use Rattle.std.specs.Int.{div_ceil}
+use Rattle.std.proofs.lemmas.Grind.{div_ceil_times}
+use Rattle.std.proofs.lemmas.Nat.{div-mul-add}
 use mathlib.Core.Path.{◌≡◌, refl, sym, ◌∙◌}
 use mathlib.Core.Bool.{true, false, ◌&&◌, ◌||◌, and-eq-true_iff, and-false, or-true}
 use lib.Dec.{eqb, leb, ltb}
@@ -13,6 +16,16 @@ use Rattle.nbr_metric_spec.specs.declared.Place.{Place}
 use Rattle.nbr_metric_spec.specs.Metric.{blank, FreshNeighbour, IsIncrement, IncrementIsCeiling, IncrementOfNone, UnansweredIsNot, increment, path_cost, eligible, offer}
 
 -- ---- the increment
+-- a quotient that is rounded up
+ceil_is : (m v : ℕ) → 0 < v → div_ceil m v ≡ (m + (v - 1)) / v
+ceil_is m v h =
+    let b = div_ceil_times m v h in
+    let q = div_ceil m v in
+    let r = m + (v - 1) - q * v in
+    let e : m + (v - 1) ≡ q * v + r = omega (arith, b.0, b.1) in
+    let l : r < v = omega (arith, b.0, b.1) in
+    rw e (sym (div-mul-add q v r l))
+
 module _ (t a : ℕ) where
   pub increment_fresh : a ≡ 0 → t ≡ 0 → 768 ≡ increment t a
   unfolding increment
@@ -26,6 +39,10 @@ module _ (t a : ℕ) where
   unfolding increment
   increment_some u v m h e f g =
       if_ne_lem _ ((256 * (3 * t - 2 * a) + (a - 1)) / a) a 0 h (rw (g, e, f))
+
+  -- as the code has it, by a quotient that is rounded up
+  pub increment_ceil : (u v m k : ℕ) → (a ≡ 0 → ⊥) → u ≡ t → v ≡ a → m ≡ 3 * u - 2 * v → k ≡ div_ceil (256 * m) v → k ≡ increment t a
+  increment_ceil u v m k h e f g d = d ∙ ceil_is (256 * m) v (omega arith) ∙ increment_some u v m h e f g
 
   above : 1 ≤ a → 256 * (3 * t - 2 * a) + (a - 1) < increment t a * a + a
   above h = rw (← increment_some t a (3 * t - 2 * a) (λ e. omega arith) refl refl refl) (lt-div-mul-add h)
@@ -41,10 +58,6 @@ module _ (t a : ℕ) where
             let s : (256 * (3 * t - 2 * a) + (a - 1)) / a ≡ increment t a = increment_some t a (3 * t - 2 * a) (λ e. omega arith) refl refl refl in
             omega arith,
       )
-
--- a quotient is no greater than what is divided
-pub quotient_below : (n k b : ℕ) → n < b → n / k < b
-quotient_below n k b h = omega (arith, div-le_self n k)
 
 pub increment_is_ceiling : IncrementIsCeiling
 increment_is_ceiling t a h = is_increment t a (increment t a) refl h
@@ -196,6 +209,6 @@ module _ (p : Place) where
     pub not_offered : 65535 ≤ k → eligible p ≡ false
     not_offered h = by_test (eligible p) (λ t. absurd (omega (arith, offer_eligible t, cost_to p t))) (λ t. t)
 
-pub ruleset incrementWays = (increment_fresh, increment_unanswered, increment_some)
+pub ruleset incrementWays = (increment_fresh, increment_unanswered, increment_ceil)
 
 pub ruleset costWays = (path_cost_is, offer_free, offer_low, offer_poor, offer_cost, offer_dear, offer_bound, eligible_is)

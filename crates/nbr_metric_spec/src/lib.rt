@@ -2,7 +2,10 @@
 #![tactic(auto)]
 
 ghost use Rattle.std.specs.Prelude.{◌≡◌};
+ghost use Rattle.nbr_metric_spec.specs.JoinMetric.{join_answer_of};
 ghost use Rattle.nbr_metric_spec.specs.Metric.{blank as freePlace};
+
+use refusal::Refusal;
 
 // The lowest rank that a parent may have, and by how much a rank grows over one hop of the best link.
 pub const MINIMUM_RANK: u32 = 256;
@@ -22,7 +25,7 @@ pub const NO_OFFER: u32 = 65535;
 // A place of the table. The counters are wider than their limits, so that a table over them can be given, and is refused.
 // C knows it as struct tesolvagna_neighbour: 16 bytes, the last of which is padding.
 #[repr(C)]
-#[derive(Clone, Copy)]
+#[derive(Clone, Copy, Default)]
 pub struct Place {
     pub id: u64,
     pub rank: u16,
@@ -31,7 +34,7 @@ pub struct Place {
     pub used: bool,
 }
 
-// A join metric with the call's number; 0 where it is refused.
+// A join metric with the call's number; 0 where it is refused. C knows it as struct tesolvagna_metric.
 #[repr(C)]
 #[derive(Clone, Copy)]
 pub struct JoinAnswer {
@@ -39,15 +42,26 @@ pub struct JoinAnswer {
     pub metric: u8,
 }
 
+impl From<Result<u8, Refusal>> for JoinAnswer {
+    ghost from_gives = { λ answer given. given ≡ join_answer_of answer };
+
+    fn from(answer: Result<u8, Refusal>) -> JoinAnswer {
+        match answer {
+            Ok(metric) => JoinAnswer {
+                number: refusal::DONE,
+                metric,
+            },
+            Err(refusal) => JoinAnswer {
+                number: refusal.number(),
+                metric: 0,
+            },
+        }
+    }
+}
+
 // A free place.
 pub fn blank() -> Place
     ensures { result ≡ freePlace }
 {
-    Place {
-        id: 0,
-        rank: 0,
-        attempts: 0,
-        acked: 0,
-        used: false,
-    }
+    Place::default()
 }

@@ -1,64 +1,50 @@
-// One walk over the places of a table for an evaluation: what the best place offers, by least path cost, then lower identifier, and
+// What an evaluation looks for in the places of a table: what the best place offers, by least path cost, then lower identifier, and
 // the place of the held parent. The rules are those of docs/RULES.md, Neighbours.
 ghost use Rattle.std.specs.Prelude.{◌≡◌};
-ghost use Rattle.nbr_table_spec.specs.Offers.{lower as lowerOf, sought as soughtOf, surveyed};
+ghost use Rattle.nbr_table_spec.specs.Places.{best};
+ghost use Rattle.nbr_table_spec.specs.Calls.{held_place as heldPlace};
+ghost use Rattle.nbr_table_spec.specs.Offers.{offer_of as offerOf, surveyed};
 
 use nbr_metric_spec::Place;
-use nbr_table_spec::{Offer, Sought, Survey};
+use nbr_table_spec::{Offer, Survey};
 
-// The lower of two offers.
-fn lower(kept: Offer, other: Offer) -> Offer
-    ensures { result ≡ lowerOf kept other }
+// What the best place offers, with its identifier: NO_OFFER with 0 if no place is eligible.
+fn best_offer(places: &[Place; 32]) -> Offer
+    ensures { result ≡ offerOf (best places.now) }
 {
-    if other.cost < kept.cost {
-        return other;
-    }
-    if kept.cost < other.cost {
-        return kept;
-    }
-    if other.id < kept.id {
-        return other;
-    }
-    kept
-}
-
-// The held parent once one place more was looked at.
-fn sought(found: Sought, place: Place, id: u64) -> Sought
-    ensures { result ≡ soughtOf id found place }
-{
-    if found.missing & (place.used & (place.id == id)) {
-        return Sought {
-            missing: false,
-            place,
-        };
-    }
-    found
-}
-
-// What the best place offers, with its identifier (NO_OFFER with 0 if no place is eligible), and the place of the held parent.
-pub fn survey(places: [Place; 32], parent: nbr_table_spec::Parent) -> Survey
-    ensures { result ≡ surveyed places parent }
-{
-    let id = crate::held_parent::id_of(parent);
-    let mut found = Sought {
-        missing: crate::held_parent::mark_of(parent),
-        place: nbr_metric_spec::blank(),
-    };
     let mut kept = Offer {
         cost: nbr_metric_spec::NO_OFFER,
         id: 0,
     };
-    let mut i = 0;
-    while i < nbr_table_spec::PLACES {
-        let place = places[i];
+    for place in places {
         let offered = Offer {
-            cost: nbr_metric::offer(place),
+            cost: nbr_metric::offer(*place),
             id: place.id,
         };
-        kept = lower(kept, offered);
-        found = sought(found, place, id);
-        i += 1;
+        kept = kept.min(offered);
     }
-    let held = found.place;
-    Survey { best: kept, held }
+    kept
+}
+
+// The place of the held parent, the blank one for none: it offers nothing, so that no case stands apart.
+fn held_place(places: &[Place; 32], parent: Option<u64>) -> Place
+    ensures { result ≡ heldPlace parent places.now }
+{
+    match parent {
+        Some(id) => match nbr_table::search::seek(places, id).at {
+            Some(at) => places[at],
+            None => nbr_metric_spec::blank(),
+        },
+        None => nbr_metric_spec::blank(),
+    }
+}
+
+// Both.
+pub fn survey(places: &[Place; 32], parent: Option<u64>) -> Survey
+    ensures { result ≡ surveyed places.now parent }
+{
+    Survey {
+        best: best_offer(places),
+        held: held_place(places, parent),
+    }
 }

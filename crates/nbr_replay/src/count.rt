@@ -1,9 +1,9 @@
 // What is counted after some rows, and one row more.
-ghost use Rattle.std.specs.Prelude.{◌≡◌, false, ◌+◌, ◌-◌, ◌<◌, ◌≤◌, ◌^◌};
+ghost use Rattle.std.specs.Prelude.{◌≡◌, false, ◌+◌, ◌-◌, ◌<◌, ◌≤◌, ◌^◌, IfSome};
 ghost use Rattle.octets_spec.specs.Choice.{if_eq, if_lt};
 ghost use Rattle.nbr_replay_spec.specs.Tally.{OneMore, Room, counted as countedOf, no_counts};
 
-use nbr_replay_spec::Counts;
+use nbr_replay_spec::{Counts, Visit};
 
 // Nothing counted yet.
 pub(crate) fn nothing() -> Counts
@@ -20,6 +20,7 @@ pub(crate) fn nothing() -> Counts
 }
 
 // The rises with an evaluation more: the first of all has none.
+#[tactic(auto, unfolding(octets_spec::specs::Choice::if_eq))]
 fn rises_with(counts: Counts, entry: u32) -> u64
     requires { (counts.rises < 2 ^ 62) × (entry < 2 ^ 30) }
     ensures value { result ≡ if_eq counts.evaluations 0 0 (counts.rises + (entry - counts.last)) }
@@ -28,10 +29,11 @@ fn rises_with(counts: Counts, entry: u32) -> u64
     if counts.evaluations == 0 {
         return 0;
     }
-    counts.rises + nbr_metric::increment::minus(entry, counts.last) as u64
+    counts.rises + u64::from(entry.saturating_sub(counts.last))
 }
 
 // The first cost with an evaluation more.
+#[tactic(auto, unfolding(octets_spec::specs::Choice::if_eq))]
 fn first_with(counts: Counts, entry: u32) -> u32
     ensures { result ≡ if_eq counts.evaluations 0 entry counts.first }
 {
@@ -41,31 +43,30 @@ fn first_with(counts: Counts, entry: u32) -> u32
     counts.first
 }
 
-// One row more: only an evaluation is counted.
-pub(crate) fn counted(counts: Counts, kind: u8, visit: nbr_replay_spec::Visit) -> Counts
-    requires { Room counts × (visit.change ≤ 1) × (visit.entry < 2 ^ 30) }
-    ensures value { result ≡ countedOf kind counts visit }
+// One row more: only what an evaluation shows is counted.
+#[tactic(auto, using(nbr_replay_spec::proofs::StepLaws::countWays))]
+pub(crate) fn counted(counts: Counts, shown: Option<Visit>) -> Counts
+    requires { Room counts × IfSome shown (λ visit. visit.entry < 2 ^ 30) }
+    ensures value { result ≡ countedOf counts shown }
     ensures bound { OneMore counts result }
 {
-    if kind < nbr_replay_spec::EVALUATE {
-        return counts;
-    }
-    Counts {
-        evaluations: counts.evaluations + 1,
-        changes: counts.changes + visit.change,
-        rises: rises_with(counts, visit.entry),
-        first: first_with(counts, visit.entry),
-        last: visit.exit,
-        applies: counts.applies & visit.eligible,
+    match shown {
+        None => counts,
+        Some(visit) => Counts {
+            evaluations: counts.evaluations + 1,
+            changes: counts.changes + u32::from(visit.change),
+            rises: rises_with(counts, visit.entry),
+            first: first_with(counts, visit.entry),
+            last: visit.exit,
+            applies: counts.applies & visit.eligible,
+        },
     }
 }
 
 // Whether there was an evaluation, and each had an eligible parent on entry.
+#[tactic(auto, unfolding(octets_spec::specs::Choice::if_lt))]
 pub(crate) fn applies(counts: Counts) -> bool
     ensures { result ≡ if_lt 0 counts.evaluations counts.applies false }
 {
-    if 0 < counts.evaluations {
-        return counts.applies;
-    }
-    false
+    0 < counts.evaluations && counts.applies
 }

@@ -1,27 +1,56 @@
-// A log of calls as four lent lists, one row for each call: which logs are refused (specs/Log.antt of nbr_replay_spec).
-ghost use Rattle.std.specs.Prelude.{◌≡◌};
-ghost use Rattle.nbr_replay_spec.specs.Log.{log, some_over, unfit_log};
+// A log of calls as four lent lists, one row for each call: which logs are refused, and the call of a row (specs/Log.antt of nbr_replay_spec).
+ghost use Rattle.std.specs.Prelude.{◌≡◌, ◌<◌, length};
+ghost use Rattle.nbr_replay_spec.specs.Log.{call_at, some_over, unfit_log};
+ghost use Rattle.nbr_replay_spec.specs.Tally.{EquallyLong, meant};
+ghost use Rattle.nbr_replay.specs.Rows.{rows_of};
+
+use nbr_replay_spec::Call;
+
+// The lists of a log: row i has the number at i of each. They are four arrays since C lends them so (the C interface).
+#[derive(Clone, Copy)]
+pub struct Log<'a> {
+    pub kinds: &'a [u8],
+    pub ids: &'a [u64],
+    pub values: &'a [u16],
+    pub flags: &'a [u8],
+}
 
 // Whether some byte is over a limit.
 fn any_over(s: &[u8], limit: u8) -> bool
     ensures { result ≡ some_over limit s.now }
 {
-    let mut i = 0;
-    while i < s.len() {
-        if limit < s[i] {
-            return true;
-        }
-        i += 1;
-    }
-    false
+    s.iter().any(|number| limit < *number)
 }
 
-// Whether a log is refused: its lists are not equally long, it has over 65535 rows, a kind over 3 or a flag over 1.
-pub fn is_unfit(kinds: &[u8], ids: &[u64], values: &[u16], flags: &[u8]) -> bool
-    ensures { result ≡ unfit_log (log kinds.now ids.now values.now flags.now) }
-{
-    let rows = kinds.len();
-    let equal = (ids.len() == rows) & ((values.len() == rows) & (flags.len() == rows));
-    let kind = any_over(kinds, nbr_replay_spec::EVALUATE);
-    !equal | ((nbr_replay_spec::MOST_ROWS < rows) | (kind | any_over(flags, 1)))
+impl Log<'_> {
+    // Whether it is refused: its lists are not equally long, it has over 65535 rows, a kind over 3 or a flag over 1.
+    pub fn is_unfit(&self) -> bool
+        ensures { result ≡ unfit_log (rows_of self.now) }
+    {
+        let rows = self.kinds.len();
+        let equal = (self.ids.len() == rows)
+            & ((self.values.len() == rows) & (self.flags.len() == rows));
+        let kind = any_over(self.kinds, nbr_replay_spec::HIGHEST_KIND);
+        !equal | ((nbr_replay_spec::MOST_ROWS < rows) | (kind | any_over(self.flags, 1)))
+    }
+
+    // The call of row i. The kinds are those of C's log; what a kind does not name is not looked at.
+    #[tactic(auto, using(nbr_replay_spec::proofs::LogLaws::rowWays))]
+    pub(crate) fn call(&self, i: usize) -> Call
+        requires { EquallyLong (rows_of self.now) × (i < length self.now.kinds.now) }
+        ensures { meant result ≡ call_at (rows_of self.now) i }
+    {
+        let id = self.ids[i];
+        let value = self.values[i];
+        match self.kinds[i] {
+            0 => Call::Advertise { id, rank: value },
+            1 => Call::Report {
+                id,
+                attempts: value,
+                acked: self.flags[i] == 1,
+            },
+            2 => Call::Forget { id },
+            _ => Call::Evaluate,
+        }
+    }
 }

@@ -1,61 +1,62 @@
-// One row of a log on a table that breaks no rule: what the call of that row stores. Every call keeps such a table so, and
-// therefore none of them is tested again.
-ghost use Rattle.std.specs.Prelude.{◌≡◌, false};
+// One row of a log on a table that breaks no rule. Every call keeps such a table so, and therefore none of them tests it again.
+ghost use Rattle.std.specs.Prelude.{◌≡◌, false, ◌<◌, ◌^◌, IfSome, length, set};
+ghost use Rattle.nbr_stability_spec.specs.Stability.{after};
 ghost use Rattle.nbr_table_spec.specs.Calls.{broken};
-ghost use Rattle.nbr_replay_spec.specs.Log.{call};
-ghost use Rattle.nbr_replay_spec.specs.Tally.{IsStep, storing as storingStep};
+ghost use Rattle.nbr_table_spec.specs.Stores.{change_of};
+ghost use Rattle.nbr_replay_spec.specs.Tally.{meant, showing};
 
-use nbr_replay_spec::{Step, Visit};
-use nbr_table_spec::{Change, Parent};
+use nbr_metric_spec::Place;
+use nbr_replay_spec::{Call, Visit};
+use nbr_table_spec::{Store, Table};
+use refusal::Refusal;
 
-// The step of a call that stores a change and leaves this held parent: there is nothing to count.
-fn storing(change: Change, parent: Parent) -> Step
-    ensures { result ≡ storingStep change parent }
+// Stores what a call found out, unless it is refused.
+fn put(places: &mut [Place; 32], found: Result<Store, Refusal>)
+    ensures { places.new ≡ set places.old (change_of found).at (change_of found).place }
 {
-    let place = change.place;
-    Step {
-        at: change.at,
-        place,
-        parent,
-        visit: Visit {
-            change: 0,
-            entry: 0,
-            exit: 0,
-            eligible: false,
-        },
+    if let Ok(Store { at, place }) = found
+        && at < nbr_table_spec::PLACES
+    {
+        places[at] = place;
     }
 }
 
-// The step of a row; specs/Log.antt says how a row is read.
-pub(crate) fn step(
-    places: [nbr_metric_spec::Place; 32],
-    parent: Parent,
-    kind: u8,
-    id: u64,
-    value: u16,
-    flag: u8,
-) -> Step
-    requires { broken (record { places = places; parent = parent }) ≡ false }
-    ensures { IsStep (record { places = places; parent = parent }) kind (call kind id value flag) result }
+// Makes a call on the table, and says what it shows, if it is an evaluation.
+#[tactic(auto, using(nbr_replay_spec::proofs::StepLaws::stepWays))]
+pub(crate) fn step(table: &mut Table, call: Call) -> Option<Visit>
+    requires sound { broken table.old ≡ false }
+    requires long { length table.old.places ≡ 32 }
+    ensures leaves { table.new ≡ after table.old (meant call) }
+    ensures long { length table.new.places ≡ 32 }
+    ensures shows { result ≡ showing table.old (meant call) }
+    ensures small { IfSome result (λ visit. visit.entry < 2 ^ 30) }
 {
-    if kind == nbr_replay_spec::ADVERTISE {
-        return storing(nbr_calls::advertise::advertising(places, id, value), parent);
-    }
-    if kind == nbr_replay_spec::REPORT {
-        let change = nbr_calls::report::reporting(places, id, value as u32, flag == 1);
-        return storing(change, parent);
-    }
-    if kind == nbr_replay_spec::FORGET {
-        let left = nbr_calls::forget::without(parent, id);
-        return storing(nbr_calls::forget::forgetting(places, id), left);
-    }
-    let settlement = nbr_parent::settle(places, parent);
-    let choice = settlement.choice;
-    let left = choice.parent;
-    Step {
-        at: nbr_table_spec::PLACES,
-        place: nbr_metric_spec::blank(),
-        parent: left,
-        visit: crate::visit::seen(settlement.held, parent, choice),
+    match call {
+        Call::Advertise { id, rank } => {
+            let found = nbr_calls::advertise::advertising(&table.places, id, rank);
+            put(&mut table.places, found);
+            None
+        }
+        Call::Report {
+            id,
+            attempts,
+            acked,
+        } => {
+            let found = nbr_calls::report::reporting(&table.places, id, u32::from(attempts), acked);
+            put(&mut table.places, found);
+            None
+        }
+        Call::Forget { id } => {
+            let found = nbr_calls::forget::forgetting(&table.places, id);
+            put(&mut table.places, found);
+            table.parent = nbr_calls::forget::without(table.parent, id);
+            None
+        }
+        Call::Evaluate => {
+            let before = table.parent;
+            let settlement = nbr_parent::settle(&table.places, before);
+            table.parent = settlement.choice.parent;
+            Some(crate::visit::seen(settlement.held, before, settlement.choice))
+        }
     }
 }

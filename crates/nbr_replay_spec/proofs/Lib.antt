@@ -1,5 +1,4 @@
 pub mod LogLaws
-pub mod VisitLaws
 pub mod Snoc
 pub mod StepLaws
 pub mod ReplayLaws

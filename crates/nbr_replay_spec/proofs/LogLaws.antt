@@ -1,38 +1,33 @@
--- The laws of logs: each way out of the functions that test them, as the code meets it (`logWays`), and what a log that is
--- not refused has (`run-ready`). Assumes nothing.
-use Prim.Native.Nat.{ℕ, ◌+◌, ◌<◌, ◌≤◌}
-use native.Mathlib.Numerals.{add-one}
-use mathlib.Core.Path.{◌≡◌, sym, ◌∙◌}
+-- The laws of logs: the test of a log (`some_over_any`, `unfit_is`), the call of each kind of row, as the code meets it (`rowWays`), and what
+-- a log that is not refused has (`run_ready`). Assumes nothing.
+use Prim.Native.Nat.{ℕ, ◌≤◌}
+use mathlib.Core.Path.{◌≡◌, refl, sym, ap, ◌∙◌}
 use mathlib.Core.Bool.{Bool, true, false, not, ◌&&◌, ◌||◌, and-eq-true_iff}
-use mathlib.Core.List.{List}
-use lib.ListN.{length, get_or, drop, drop_of_length-le}
-use lib.Seq.{drop-cons}
+use mathlib.Core.List.{List, [], ◌∷◌}
+use lib.ListN.{length}
 use lib.Dec.{eqb, ltb}
-use borrow.Author.Tests.{eqb-true, lt-ltb, le-ltb, ltb-false, not-false}
+use borrow.Author.Tests.{eqb-true, ltb-false, ne_eqb, not-false}
+use Rattle.std.specs.List.{list_any}
+use Rattle.octets_spec.specs.Choice.{if_eq}
 use Rattle.nbr_table_spec.proofs.PlaceLaws.{neither}
 use Rattle.nbr_table_spec.specs.declared.Table.{Table}
 use Rattle.nbr_table_spec.specs.Calls.{broken}
-use Rattle.nbr_replay_spec.specs.Log.{Log, equally_long, log, some_over, unfit_log}
+use Rattle.nbr_stability_spec.specs.Stability.Call.{Advertise, Report, Forget, Evaluate}
+use Rattle.nbr_replay_spec.specs.Log.{Log, call, equally_long, some_over, unfit_log}
+use Rattle.nbr_replay_spec.specs.Tally.{EquallyLong}
 
 -- ---- which logs are refused
-module _ (m : ℕ) (xs : List ℕ) (i : ℕ) (w : Bool) where
-  pub over_next : i < length xs → get_or xs i 0 ≤ m → some_over m (drop i xs) ≡ w → some_over m (drop (i + 1) xs) ≡ w
-  unfolding some_over
-  over_next l h e = rw add-one (rw (drop-cons xs i 0 l, le-ltb m (get_or xs i 0) h) at e)
+pub some_over_any : (m : ℕ) (xs : List ℕ) → list_any (ltb m) xs ≡ some_over m xs
+unfolding some_over
+some_over_any m [] = refl
+some_over_any m (x ∷ xs) = ap (λ (w : Bool). ltb m x || w) (some_over_any m xs)
 
-  pub over_found : i < length xs → m < get_or xs i 0 → some_over m (drop i xs) ≡ w → true ≡ w
-  unfolding some_over
-  over_found l h e = rw (drop-cons xs i 0 l, lt-ltb m (get_or xs i 0) h) at e
-
-  pub over_end : length xs ≤ i → some_over m (drop i xs) ≡ w → false ≡ w
-  unfolding some_over
-  over_end l e = rw (drop_of_length-le xs l) at e
-
-pub unfit_is : (ks ns vs fs : List ℕ) (x y : Bool) → x ≡ some_over 3 ks → y ≡ some_over 1 fs
-    → (not (eqb (length ns) (length ks) && (eqb (length vs) (length ks) && eqb (length fs) (length ks))) || (ltb 65535 (length ks) || (x || y))) ≡ unfit_log (log ks ns vs fs)
+pub unfit_is : (l : Log) (x y : Bool) → x ≡ some_over 3 l.kinds → y ≡ some_over 1 l.flags
+    → (not (eqb (length l.ids) (length l.kinds) && (eqb (length l.values) (length l.kinds) && eqb (length l.flags) (length l.kinds))) || (ltb 65535 (length l.kinds) || (x || y))) ≡ unfit_log l
 unfolding unfit_log equally_long
-unfit_is ks ns vs fs x y e f = rw (← e, ← f)
+unfit_is l x y e f = rw (← e, ← f)
 
+-- a log that is not refused
 module _ (l : Log) (x : Bool) (e : x ≡ unfit_log l) (u : x ≡ false) where
   fits : (equally_long l ≡ true) × (length l.kinds ≤ 65535)
   unfolding unfit_log
@@ -41,12 +36,36 @@ module _ (l : Log) (x : Bool) (e : x ≡ unfit_log l) (u : x ≡ false) where
       let n₂ = neither (ltb 65535 (length l.kinds)) (some_over 3 l.kinds || some_over 1 l.flags) n₁.1 in
       (not-false (equally_long l) n₁.0, ltb-false 65535 (length l.kinds) n₂.0)
 
-pub run_ready : (t : Table) (ks ns vs fs : List ℕ) (x y : Bool) → y ≡ broken t → y ≡ false → x ≡ unfit_log (log ks ns vs fs) → x ≡ false → (length ns ≡ length ks) × (length vs ≡ length ks) × (length fs ≡ length ks) × (length ks ≤ 65535) × (broken t ≡ false)
-unfolding equally_long
-run_ready t ks ns vs fs x y g h e u =
-    let f = fits (log ks ns vs fs) x e u in
-    let b₁ = (and-eq-true_iff (eqb (length ns) (length ks)) (eqb (length vs) (length ks) && eqb (length fs) (length ks))).0 f.0 in
-    let b₂ = (and-eq-true_iff (eqb (length vs) (length ks)) (eqb (length fs) (length ks))).0 b₁.1 in
-    (eqb-true (length ns) (length ks) b₁.0, eqb-true (length vs) (length ks) b₂.0, eqb-true (length fs) (length ks) b₂.1, f.1, sym g ∙ h)
+  long : EquallyLong l
+  unfolding equally_long
+  long =
+      let b₁ = (and-eq-true_iff (eqb (length l.ids) (length l.kinds)) (eqb (length l.values) (length l.kinds) && eqb (length l.flags) (length l.kinds))).0 fits.0 in
+      let b₂ = (and-eq-true_iff (eqb (length l.values) (length l.kinds)) (eqb (length l.flags) (length l.kinds))).0 b₁.1 in
+      record {
+        ids = eqb-true (length l.ids) (length l.kinds) b₁.0;
+        values = eqb-true (length l.values) (length l.kinds) b₂.0;
+        flags = eqb-true (length l.flags) (length l.kinds) b₂.1;
+      }
 
-pub ruleset logWays = (over_next, over_found, over_end, unfit_is)
+  pub run_ready : (t : Table) (y : Bool) → y ≡ broken t → y ≡ false → EquallyLong l × (length l.kinds ≤ 65535) × (broken t ≡ false)
+  run_ready t y g h = (long, fits.1, sym g ∙ h)
+
+-- ---- the call of a row
+module _ (kind id value flag : ℕ) where
+  pub row_advertises : kind ≡ 0 → Advertise id value ≡ call kind id value flag
+  unfolding call if_eq
+  row_advertises k = rw k
+
+  pub row_reports : kind ≡ 1 → Report id value (eqb flag 1) ≡ call kind id value flag
+  unfolding call if_eq
+  row_reports k = rw k
+
+  pub row_forgets : kind ≡ 2 → Forget id ≡ call kind id value flag
+  unfolding call if_eq
+  row_forgets k = rw k
+
+  pub row_evaluates : (kind ≡ 0 → ⊥) → (kind ≡ 1 → ⊥) → (kind ≡ 2 → ⊥) → Evaluate ≡ call kind id value flag
+  unfolding call if_eq
+  row_evaluates o p d = rw (ne_eqb kind 0 o, ne_eqb kind 1 p, ne_eqb kind 2 d)
+
+pub ruleset rowWays = (row_advertises, row_reports, row_forgets, row_evaluates)

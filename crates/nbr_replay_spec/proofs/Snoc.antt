@@ -1,26 +1,26 @@
 -- What one call more at the end of a list does to each count. Assumes nothing.
-use Prim.Native.Nat.{ℕ, ◌+◌, ◌-◌}
+use Prim.Native.Nat.{◌+◌, ◌-◌}
 use native.Mathlib.Omega.{arith}
 use mathlib.Core.Path.{◌≡◌, refl, sym, ap, ◌∙◌}
-use mathlib.Core.Bool.{Bool, cond, ◌&&◌, and-true, and_assoc}
+use mathlib.Core.Bool.{not, cond, ◌&&◌, and-true, and_assoc}
 use mathlib.Core.List.{List, [], ◌∷◌, ◌++◌, append-nil}
 use lib.ListN.{length, length-append}
 use Rattle.octets_spec.specs.Choice.{if_eq}
-use Rattle.octets_spec.proofs.ChoiceLaws.{if_ne_lem}
+use Rattle.octets_spec.proofs.ChoiceLaws.{by_test, if_ne_lem}
 use Rattle.nbr_metric_spec.specs.Metric.{eligible}
 use Rattle.nbr_table_spec.specs.declared.Table.{Table}
 use Rattle.nbr_table_spec.specs.Calls.{held, held_cost, same_parent}
 use Rattle.nbr_stability_spec.specs.Stability.{Call, EntryExit, after, changes, each_eligible, evaluations, first_cost, last_cost, rises}
 use Rattle.nbr_stability_spec.specs.Stability.Call.{Advertise, Report, Forget, Evaluate}
 use Rattle.nbr_replay_spec.specs.Replay.{final}
-use Rattle.nbr_replay_spec.specs.Tally.{noted, tally}
+use Rattle.nbr_replay_spec.specs.Tally.{counted, noted, showing, tally}
 use Rattle.nbr_replay_spec.specs.Visit.{visited}
 
 -- ---- one evaluation more
 module _ (v : EntryExit) where
-  changes_snoc : (vs : List EntryExit) → changes (vs ++ v ∷ []) ≡ changes vs + cond (same_parent v.entry.parent v.exit.parent) 0 1
+  changes_snoc : (vs : List EntryExit) → changes (vs ++ v ∷ []) ≡ changes vs + cond (not (same_parent v.entry.parent v.exit.parent)) 1 0
   unfolding changes
-  changes_snoc [] = omega arith
+  changes_snoc [] = by_test (same_parent v.entry.parent v.exit.parent) (λ e. rw e refl) (λ e. rw e refl)
   changes_snoc (w ∷ vs) = omega (arith, changes_snoc vs)
 
   rises_more : (w : EntryExit) (vs : List EntryExit) → rises (w ∷ (vs ++ v ∷ [])) ≡ rises (w ∷ vs) + (held_cost v.entry - last_cost (w ∷ vs))
@@ -74,18 +74,18 @@ module _ (t : Table) (cs : List Call) where
   tally_of vs e c f =
       ap (λ (v : List EntryExit). record { evaluations = length v; changes = changes v; rises = rises v; first = first_cost v; last = last_cost v; applies = each_eligible v }) (e ∙ sym f)
 
-  pub tally_advertise : (n rank : ℕ) → tally t cs ≡ tally t (cs ++ Advertise n rank ∷ [])
-  unfolding evaluations
-  tally_advertise n rank = tally_of (evaluations t cs) refl (Advertise n rank) (quiet t cs (Advertise n rank) refl)
+  -- a call that is no evaluation
+  tally_quiet : (c : Call) → evaluations (final t cs) (c ∷ []) ≡ [] → tally t cs ≡ tally t (cs ++ c ∷ [])
+  tally_quiet c e = tally_of (evaluations t cs) refl c (quiet t cs c e)
 
-  pub tally_report : (n k : ℕ) (ok : Bool) → tally t cs ≡ tally t (cs ++ Report n k ok ∷ [])
-  unfolding evaluations
-  tally_report n k ok = tally_of (evaluations t cs) refl (Report n k ok) (quiet t cs (Report n k ok) refl)
-
-  pub tally_forget : (n : ℕ) → tally t cs ≡ tally t (cs ++ Forget n ∷ [])
-  unfolding evaluations
-  tally_forget n = tally_of (evaluations t cs) refl (Forget n) (quiet t cs (Forget n) refl)
-
-  pub tally_evaluate : noted (tally t cs) (visited (final t cs) (after (final t cs) Evaluate)) ≡ tally t (cs ++ Evaluate ∷ [])
+  tally_evaluate : noted (tally t cs) (visited (final t cs) (after (final t cs) Evaluate)) ≡ tally t (cs ++ Evaluate ∷ [])
   unfolding tally noted evaluations
   tally_evaluate = simp (evaluations_snoc t cs Evaluate, length-append, changes_snoc, rises_snoc, first_snoc, last_snoc, each_snoc)
+
+  -- one call more, counted
+  pub tally_next : (c : Call) → counted (tally t cs) (showing (final t cs) c) ≡ tally t (cs ++ c ∷ [])
+  unfolding counted showing evaluations
+  tally_next (Advertise n rank) = tally_quiet (Advertise n rank) refl
+  tally_next (Report n k ok) = tally_quiet (Report n k ok) refl
+  tally_next (Forget n) = tally_quiet (Forget n) refl
+  tally_next Evaluate = tally_evaluate

@@ -1,13 +1,27 @@
 -- What a log of calls comes to, in the words of the claim that parents do not flap (docs/RULES.md, Parents do not flap). Assumes
 -- nothing.
-use Rattle.std.specs.Prelude.{ℕ, false, List, [], ◌∷◌, length}
+use Rattle.std.specs.Prelude.{ℕ, Bool, false, List, [], ◌∷◌, length, Result, Ok, Err}
 use Rattle.octets_spec.specs.Choice.{if_on}
-use Rattle.refusal.specs.Refusal.{done, out_of_limits}
+use Rattle.refusal.specs.declared.Refusal.{Refusal}
+use Rattle.refusal.specs.Refusal.{done, number_of, out_of_limits}
 use Rattle.nbr_table_spec.specs.declared.Table.{Table}
 use Rattle.nbr_table_spec.specs.Calls.{broken}
 use Rattle.nbr_stability_spec.specs.Stability.{Call, after, applies, changes, evaluations, first_cost, last_cost, rises}
-use Rattle.nbr_replay_spec.specs.declared.Outcome.{Outcome}
+use Rattle.nbr_replay_spec.specs.declared.Outcome.{Outcome as Ended}
 use Rattle.nbr_replay_spec.specs.Log.{Log, calls, unfit_log}
+
+-- what an answer says: its number, the table at the end, how many evaluations there were, how many of them changed the parent, all rises
+-- of the held parent's cost between one evaluation and the next, its cost on entry to the first and on exit from the last, and whether
+-- the claim applies
+pub record Outcome : Type 0 where
+  pub number : ℕ
+  pub table : Table
+  pub evaluations : ℕ
+  pub changes : ℕ
+  pub rises : ℕ
+  pub first : ℕ
+  pub last : ℕ
+  pub applies : Bool
 
 -- the table at the end of a list of calls
 unfoldable pub final : Table → List Call → Table
@@ -36,3 +50,18 @@ outcome table calls =
 -- the answer: a table or a log that is refused is 8
 unfoldable pub replayed : Table → Log → Outcome
 replayed table rows = if_on (broken table) (refused_replay out_of_limits table) (if_on (unfit_log rows) (refused_replay out_of_limits table) (outcome table (calls rows)))
+
+-- what an answer of code says, of a log on a table
+abbrev pub outcome_of : Table → Result Ended Refusal → Outcome
+outcome_of table (Ok ended) =
+    record {
+      number = done;
+      table = ended.table;
+      evaluations = ended.evaluations;
+      changes = ended.changes;
+      rises = ended.rises;
+      first = ended.first;
+      last = ended.last;
+      applies = ended.applies;
+    }
+outcome_of table (Err refusal) = refused_replay (number_of refusal) table

@@ -5,21 +5,23 @@
 // The most rows that a log may have.
 pub const MOST_ROWS: usize = 65535;
 
-// The kinds of calls, as a log has them.
-pub const ADVERTISE: u8 = 0;
+// The highest kind that a row of a log may have. A log has the numbers of kinds, and no enum, since C lends it (the C interface).
+pub const HIGHEST_KIND: u8 = 3;
 
-pub const REPORT: u8 = 1;
-
-pub const FORGET: u8 = 2;
-
-pub const EVALUATE: u8 = 3;
+// A call that a row of a log makes, with what it is given besides the table.
+#[derive(Clone, Copy, Debug, PartialEq, Eq)]
+pub enum Call {
+    Advertise { id: u64, rank: u16 },
+    Report { id: u64, attempts: u16, acked: bool },
+    Forget { id: u64 },
+    Evaluate,
+}
 
 // What a log comes to: the table at the end, how many evaluations there were, how many of them changed the parent, all
 // rises of the held parent's cost between one evaluation and the next, its cost on entry to the first and on exit from the
 // last, and whether the claim applies: at least one evaluation, and at each an eligible parent on entry.
 #[derive(Clone, Copy)]
 pub struct Outcome {
-    pub number: u8,
     pub table: nbr_table_spec::Table,
     pub evaluations: u32,
     pub changes: u32,
@@ -40,22 +42,12 @@ pub struct Counts {
     pub applies: bool,
 }
 
-// What one evaluation shows: 1 for a change of the parent, the held parent's cost on entry and on exit, and whether the
+// What one evaluation shows: whether the parent changed, the held parent's cost on entry and on exit, and whether the
 // parent held on entry is eligible.
 #[derive(Clone, Copy)]
 pub struct Visit {
-    pub change: u32,
+    pub change: bool,
     pub entry: u32,
     pub exit: u32,
     pub eligible: bool,
-}
-
-// What one row does to a table: the place that it stores, and its number, 32 for none; the parent that is held afterwards; and, for
-// an evaluation, what it shows.
-#[derive(Clone, Copy)]
-pub struct Step {
-    pub at: usize,
-    pub place: nbr_metric_spec::Place,
-    pub parent: nbr_table_spec::Parent,
-    pub visit: Visit,
 }

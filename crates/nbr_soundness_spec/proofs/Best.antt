@@ -1,5 +1,5 @@
 -- The best place comes first among the eligible ones, and is one of the places; so it is by any key and any test that the blank place
--- does not pass (`first-by-key`, `stands-by-key`). Assumes nothing.
+-- does not pass (`first_by_key`, `stands_by_key`). Assumes nothing.
 use Prim.Native.Nat.{ℕ, zero, suc, ◌<◌, ◌≤◌}
 use native.Mathlib.Nat.{le_refl}
 use native.Mathlib.Omega.{arith}

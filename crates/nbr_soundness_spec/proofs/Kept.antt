@@ -1,4 +1,5 @@
 -- Every call keeps a table that is not refused so, and a forgotten place is free again. Assumes nothing.
+use Rattle.std.proofs.Common.{Option, Some, None}
 use Prim.Native.Nat.{ℕ, ◌+◌, ◌-◌, ◌/◌, ◌≤◌}
 use native.Mathlib.Omega.{arith}
 use mathlib.Core.Path.{◌≡◌, refl, sym, subst, ◌∙◌}
@@ -13,8 +14,6 @@ use Rattle.nbr_metric_spec.specs.Metric.{blank, eligible, path_cost}
 use Rattle.nbr_metric_spec.proofs.MetricLaws.{eligible_used}
 use Rattle.nbr_table_spec.specs.Places.{best, change_first, free, known, named, nonzero, some_place, twice, unfit}
 use Rattle.nbr_table_spec.proofs.PlaceLaws.{clash, fit_limits, neither}
-use Rattle.nbr_table_spec.specs.declared.Parent.{Parent}
-use Rattle.nbr_table_spec.specs.declared.Parent.TheVariants.{None, Held}
 use Rattle.nbr_table_spec.specs.declared.Table.{Table}
 use Rattle.nbr_table_spec.specs.Changes.{attempted, newcomer, with_counters, with_rank}
 use Rattle.nbr_table_spec.specs.Calls.{advertised, parent_missing, broken, chosen, evaluated, forgotten, held, reported, with_parent, with_places, without}
@@ -23,7 +22,7 @@ use Rattle.nbr_soundness_spec.proofs.Best.{best_is_a_place}
 use Rattle.nbr_soundness_spec.proofs.Places.{fit_kept, free_not_named, known_at, known_kept, named_says, same_known, same_twice, twice_put}
 
 -- ---- the rules that a table keeps, apart and together
-pub record Sound (ps : List Place) (q : Parent) : Type 0 where
+pub record Sound (ps : List Place) (q : Option ℕ) : Type 0 where
   pub fit : some_place unfit ps ≡ false
   pub apart : twice ps ≡ false
   pub there : parent_missing q ps ≡ false
@@ -40,18 +39,18 @@ unfolding broken
 unbroken t s = simp (s.fit, s.apart, s.there)
 
 -- a held parent is known
-pub held_known : (m : ℕ) (ps : List Place) → parent_missing (Held m) ps ≡ false → known m ps ≡ true
+pub held_known : (m : ℕ) (ps : List Place) → parent_missing (Some m) ps ≡ false → known m ps ≡ true
 unfolding parent_missing
 held_known m ps h = not-false (known m ps) h
 
-there_known : (m : ℕ) (ps : List Place) → known m ps ≡ true → parent_missing (Held m) ps ≡ false
+there_known : (m : ℕ) (ps : List Place) → known m ps ≡ true → parent_missing (Some m) ps ≡ false
 unfolding parent_missing
 there_known m ps h = rw h
 
-there_kept : (q : Parent) (ps qs : List Place) → ((m : ℕ) → known m ps ≡ true → known m qs ≡ true) → parent_missing q ps ≡ false → parent_missing q qs ≡ false
+there_kept : (q : Option ℕ) (ps qs : List Place) → ((m : ℕ) → known m ps ≡ true → known m qs ≡ true) → parent_missing q ps ≡ false → parent_missing q qs ≡ false
 unfolding parent_missing
 there_kept None ps qs k h = refl
-there_kept (Held m) ps qs k h = there_known m qs (k m (held_known m ps h))
+there_kept (Some m) ps qs k h = there_known m qs (k m (held_known m ps h))
 
 -- ---- a place in use stays within its limits
 fit_used : (p : Place) → p.used ≡ true → p.attempts ≤ 255 → p.acked ≤ p.attempts → unfit p ≡ false
@@ -132,10 +131,10 @@ module _ (t : Table) (h : broken t ≡ false) where
       (λ e. rw (h, a, b, e) h)))
 
   -- the held parent once neighbour n is removed
-  left_there : (n : ℕ) (q : Parent) → parent_missing q t.places ≡ false → parent_missing (without n q) (change_first (named n) (λ p. blank) t.places) ≡ false
+  left_there : (n : ℕ) (q : Option ℕ) → parent_missing q t.places ≡ false → parent_missing (without n q) (change_first (named n) (λ p. blank) t.places) ≡ false
   unfolding without parent_missing if_eq
   left_there n None a = refl
-  left_there n (Held m) a =
+  left_there n (Some m) a =
       by_test (eqb m n) (λ e. rw e)
       (λ e. rw e
       (there_known m (change_first (named n) (λ p. blank) t.places)
@@ -161,8 +160,8 @@ module _ (t : Table) (h : broken t ≡ false) where
   forgotten_sound n = by_test (known n t.places) (λ e. rw (h, e) (removed_sound n)) (λ e. rw (h, e) h)
 
   -- any parent that is known, and none, may be held
-  pub held_sound : (m : ℕ) → known m t.places ≡ true → broken (with_parent t (Held m)) ≡ false
-  held_sound m k = let s = sound t h in unbroken (with_parent t (Held m)) (record { fit = s.fit; apart = s.apart; there = there_known m t.places k })
+  pub held_sound : (m : ℕ) → known m t.places ≡ true → broken (with_parent t (Some m)) ≡ false
+  held_sound m k = let s = sound t h in unbroken (with_parent t (Some m)) (record { fit = s.fit; apart = s.apart; there = there_known m t.places k })
 
   pub none_sound : broken (with_parent t None) ≡ false
   unfolding parent_missing

@@ -1,14 +1,12 @@
 -- What holds of the table's calls beyond what each of them answers (docs/RULES.md, Neighbours). Assumes nothing.
-use Rattle.std.specs.Prelude.{ℕ, ◌+◌, ◌<◌, ◌≤◌, ◌≡◌, Bool, true, false, List, ◌⊎◌, length, get_or}
+use Rattle.std.specs.Prelude.{ℕ, ◌+◌, ◌<◌, ◌≤◌, ◌≡◌, Bool, true, false, List, ◌⊎◌, length, get_or, Some, None}
 use Rattle.nbr_metric_spec.specs.declared.Place.{Place}
 use Rattle.nbr_metric_spec.specs.Metric.{blank, eligible, path_cost}
 use Rattle.refusal.specs.Refusal.{done}
 use Rattle.nbr_table_spec.specs.Places.{best, known}
 use Rattle.nbr_table_spec.specs.Changes.{attempted}
-use Rattle.nbr_table_spec.specs.declared.Parent.TheVariants.{None, Held}
-use Rattle.nbr_table_spec.specs.declared.Answer.{Answer}
+use Rattle.nbr_table_spec.specs.Calls.{Answer, advertised, broken, empty_table, evaluated, evaluation, forgotten, held, reported, with_parent}
 use Rattle.nbr_table_spec.specs.declared.Table.{Table}
-use Rattle.nbr_table_spec.specs.Calls.{advertised, broken, empty_table, evaluated, evaluation, forgotten, held, reported, with_parent}
 
 -- every call keeps a table that is not refused so
 abbrev pub CallsKeepTables : Type 0
@@ -56,7 +54,7 @@ abbrev pub OwnRank : Type 0
 OwnRank =
     (table : Table) → broken table ≡ false →
     (((evaluated table).table.parent ≡ None) × ((evaluated table).rank ≡ 65535))
-    ⊎ (((evaluated table).table.parent ≡ Held (held (evaluated table).table).id)
+    ⊎ (((evaluated table).table.parent ≡ Some (held (evaluated table).table).id)
     × (eligible (held (evaluated table).table) ≡ true)
     × ((evaluated table).rank ≡ path_cost (held (evaluated table).table))
     × ((held (evaluated table).table).rank + 256 ≤ (evaluated table).rank)
@@ -73,7 +71,7 @@ ParentLost failed =
 -- fails
 abbrev pub JoinsThrough : ℕ → ℕ → Table → Type 0
 JoinsThrough id rank table =
-    (evaluated table ≡ evaluation done (with_parent table (Held id)) (rank + 768))
+    (evaluated table ≡ evaluation done (with_parent table (Some id)) (rank + 768))
     × ((attempts : ℕ) → 1 ≤ attempts → attempts ≤ 4 → ParentLost (reported (evaluated table).table id attempts false))
 
 -- a fresh tag joins through the first neighbour that is advertised to it with a rank from 256 to 64766

@@ -1,12 +1,11 @@
 -- Tables that meet what the theorems ask for, so that none of them speaks of nothing: the checker computes each line
 -- (docs/RULES.md, Neighbours). Assumes nothing.
-use Rattle.std.specs.Prelude.{ℕ, zero, suc, ◌+◌, ◌-◌, ◌≡◌, true, false, List, [], ◌∷◌, get_or, replicate}
+use Rattle.std.specs.Prelude.{ℕ, zero, suc, ◌+◌, ◌-◌, ◌≡◌, true, false, List, [], ◌∷◌, get_or, replicate, Some, None}
 use Rattle.refusal.specs.Refusal.{done, out_of_limits, table_full, unknown_neighbour}
 use Rattle.nbr_metric_spec.specs.declared.Place.{Place}
 use Rattle.nbr_metric_spec.specs.Metric.{blank, eligible, path_cost}
 use Rattle.nbr_table_spec.specs.Places.{best, free, known, some_place}
 use Rattle.nbr_table_spec.specs.Changes.{newcomer}
-use Rattle.nbr_table_spec.specs.declared.Parent.TheVariants.{None, Held}
 use Rattle.nbr_table_spec.specs.declared.Table.{Table}
 use Rattle.nbr_table_spec.specs.Calls.{advertised, answer, broken, empty_table, evaluated, forgotten, held, reported}
 
@@ -16,11 +15,11 @@ costing id cost = record { id = id; rank = cost - 256; attempts = 1; acked = 1; 
 
 -- neighbour 1 is held at a cost, neighbour 2 has another
 abbrev pub two_neighbours : ℕ → ℕ → Table
-two_neighbours held_at otherAt = record { places = costing 1 held_at ∷ costing 2 otherAt ∷ replicate 30 blank; parent = Held 1 }
+two_neighbours held_at otherAt = record { places = costing 1 held_at ∷ costing 2 otherAt ∷ replicate 30 blank; parent = Some 1 }
 
 -- neighbour 1 is held at a cost, neighbour 2 is fresh, with the lowest rank: it costs 1024
 abbrev pub against_fresh : ℕ → Table
-against_fresh held_at = record { places = costing 1 held_at ∷ newcomer 2 256 ∷ replicate 30 blank; parent = Held 1 }
+against_fresh held_at = record { places = costing 1 held_at ∷ newcomer 2 256 ∷ replicate 30 blank; parent = Some 1 }
 
 -- so many neighbours, from an identifier on
 abbrev pub neighbours_from : ℕ → ℕ → List Place
@@ -29,7 +28,7 @@ neighbours_from id (suc count) = costing id 512 ∷ neighbours_from (suc id) cou
 
 -- a table with all 32 places in use, by neighbours 1 to 32
 abbrev pub full_table : Table
-full_table = record { places = neighbours_from 1 32; parent = Held 7 }
+full_table = record { places = neighbours_from 1 32; parent = Some 7 }
 
 -- an eligible parent that is held changes for one that costs 641 less, which is the best and one of the places, and is kept
 -- against one that costs 640 less; the own rank is the cost
@@ -55,7 +54,7 @@ CostsWitnessed =
 abbrev pub FreshWitnessed : Type 0
 FreshWitnessed =
     ((evaluated (against_fresh 1664)).table ≡ against_fresh 1664)
-    × ((evaluated (against_fresh 1665)).table.parent ≡ Held 2)
+    × ((evaluated (against_fresh 1665)).table.parent ≡ Some 2)
     × ((evaluated (against_fresh 1665)).rank ≡ 1024)
 
 -- a full table breaks no rule, refuses a new neighbour with 11 and an unknown one with 10, and takes a new one once neighbour 7

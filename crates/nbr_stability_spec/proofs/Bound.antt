@@ -1,5 +1,6 @@
 -- Parents do not flap: the proof. One evaluation whose held parent is eligible satisfies
 -- 641 × change + cost on exit ≤ cost on entry, and the list adds these up. Assumes nothing.
+use Rattle.std.proofs.Common.{Option, Some, None}
 use Prim.Native.Nat.{ℕ, ◌+◌, ◌*◌, ◌≤◌}
 use native.Mathlib.Omega.{arith}
 use mathlib.Core.Path.{◌≡◌, refl, sym, subst}
@@ -11,8 +12,6 @@ use Rattle.octets_spec.specs.Choice.{if_on}
 use Rattle.nbr_metric_spec.specs.Metric.{eligible, path_cost}
 use Rattle.nbr_metric_spec.proofs.MetricLaws.{cost_to}
 use Rattle.nbr_table_spec.proofs.PlaceLaws.{clash}
-use Rattle.nbr_table_spec.specs.declared.Parent.{Parent}
-use Rattle.nbr_table_spec.specs.declared.Parent.TheVariants.{None, Held}
 use Rattle.nbr_table_spec.specs.declared.Table.{Table}
 use Rattle.nbr_table_spec.specs.Calls.{broken, evaluated, held, held_cost, mark_of, same_parent}
 use Rattle.nbr_soundness_spec.proofs.Kept.{calls_keep_tables}
@@ -21,10 +20,10 @@ use Rattle.nbr_stability_spec.specs.Stability.{AtMost101Changes, Call, NoneRefus
 use Rattle.nbr_stability_spec.specs.Stability.Call.{Advertise, Report, Forget, Evaluate}
 
 -- ---- one evaluation
-pub same_self : (q : Parent) → same_parent q q ≡ true
+pub same_self : (q : Option ℕ) → same_parent q q ≡ true
 unfolding same_parent
 same_self None = refl
-same_self (Held n) = eq-eqb n n refl
+same_self (Some n) = eq-eqb n n refl
 
 one_at_most : (x : Bool) → cond x 0 1 ≤ 1
 one_at_most true = omega arith

@@ -1,4 +1,5 @@
 -- The bound cannot be lowered: lists that meet it, run by the checker. Assumes nothing.
+use Rattle.std.proofs.Common.{Some}
 use Prim.Native.Nat.{ℕ, zero, suc, ◌-◌}
 use mathlib.Core.Path.{refl}
 use mathlib.Core.Bool.{true}
@@ -10,7 +11,6 @@ use Rattle.nbr_metric_spec.specs.declared.Place.{Place}
 use Rattle.nbr_metric_spec.specs.Metric.{blank, eligible, increment, path_cost}
 use Rattle.nbr_table_spec.specs.Places.{best_of, better, change_first, first_of, free, named, lesser, nonzero, some_place, twice, unfit}
 use Rattle.nbr_table_spec.specs.Changes.{newcomer}
-use Rattle.nbr_table_spec.specs.declared.Parent.TheVariants.{Held}
 use Rattle.nbr_table_spec.specs.declared.Table.{Table}
 use Rattle.nbr_table_spec.specs.Calls.{advertised, parent_missing, broken, chosen, evaluated, held_place, id_of, mark_of, same_parent}
 use Rattle.nbr_stability_spec.specs.Stability.{BoundIsMet, Call, Reaches101, after, some_evaluation, applies, changes, call_fits, each_eligible, evaluations, first_cost, both_fit, last_cost, place_fits, places_fit, rises, table_fits}
@@ -22,11 +22,11 @@ measured n r = record { id = n; rank = r; attempts = 1; acked = 1; used = true }
 
 -- neighbours 1 and 2 are measured, and neighbour 1 is held
 abbrev pair : ℕ → ℕ → Table
-pair r s = record { places = measured 1 r ∷ measured 2 s ∷ replicate 30 blank; parent = Held 1 }
+pair r s = record { places = measured 1 r ∷ measured 2 s ∷ replicate 30 blank; parent = Some 1 }
 
 -- neighbours 1 and 2 are fresh, so that their costs are their ranks and 768, neighbour 3 is measured, and neighbour 1 is held; all cost 65534
 abbrev fresh_pair : Table
-fresh_pair = record { places = newcomer 1 64766 ∷ newcomer 2 64766 ∷ measured 3 65278 ∷ replicate 29 blank; parent = Held 1 }
+fresh_pair = record { places = newcomer 1 64766 ∷ newcomer 2 64766 ∷ measured 3 65278 ∷ replicate 29 blank; parent = Some 1 }
 
 -- two neighbours in turn come 641 below the held one, so many times, and then these calls follow
 abbrev descent : ℕ → ℕ → ℕ → ℕ → List Call → List Call

@@ -1,24 +1,29 @@
 -- The laws of the table's calls: each way out, as the code meets it (the rulesets at the end). Assumes nothing.
+use Rattle.std.proofs.Common.{Option, Some, None, MatchOption}
+use Rattle.std.specs.Bool.{then_some}
+use Rattle.std.specs.Int.{from_bool}
 use Prim.Native.Nat.{ℕ, ◌+◌, ◌-◌, ◌/◌, ◌<◌, ◌≤◌}
 use native.Mathlib.Omega.{arith}
-use mathlib.Core.Path.{◌≡◌, sym, ap, ◌∙◌}
-use mathlib.Core.Bool.{Bool, true, false, cond}
+use mathlib.Core.Path.{◌≡◌, refl, sym, ap, ◌∙◌}
+use mathlib.Core.Bool.{Bool, true, false, cond, not}
 use lib.ListN.{replicate}
 use lib.Dec.{eqb}
-use Rattle.octets_spec.proofs.ChoiceLaws.{choices}
+use Rattle.octets_spec.specs.Choice.{if_eq}
+use Rattle.octets_spec.proofs.ChoiceLaws.{by_test, choices}
 use Rattle.nbr_metric_spec.specs.declared.Place.{Place}
 use Rattle.nbr_metric_spec.specs.Metric.{blank, eligible, path_cost}
 use Rattle.nbr_table_spec.specs.Places.{best, unfit}
 use Rattle.nbr_table_spec.proofs.PlaceLaws.{fit_limits}
-use Rattle.nbr_table_spec.specs.declared.Parent.{Parent}
-use Rattle.nbr_table_spec.specs.declared.Parent.TheVariants.{None, Held}
 use Rattle.nbr_table_spec.specs.declared.Table.{Table}
 use Rattle.nbr_table_spec.specs.declared.Choice.{Choice}
-use Rattle.nbr_table_spec.specs.Changes.{attempted, newcomer, with_counters}
-use Rattle.nbr_table_spec.specs.Calls.{broken, choice, choice_of, chosen, empty_table, evaluated, evaluation, held, id_of, mark_of, same_parent, settled, with_parent, without}
+use Rattle.nbr_table_spec.specs.Changes.{attempted, with_counters}
+use Rattle.nbr_table_spec.specs.Calls.{broken, choice, choice_of, chosen, empty_table, evaluated, evaluation, held, settled, with_parent, without}
 
 -- ---- what a place becomes
-module _ (p : Place) (k : ℕ) (ok : Bool) (more : ℕ) (q : Place) (e : more ≡ cond ok 1 0) where
+module _ (p : Place) (k : ℕ) (ok : Bool) (more : ℕ) (q : Place) (e₀ : more ≡ from_bool ok) where
+  e : more ≡ cond ok 1 0
+  e = e₀ ∙ by_test ok (λ u. rw u refl) (λ u. rw u refl)
+
   pub attempted_halved : 255 < p.attempts + k → q ≡ with_counters (p.attempts / 2 + k) (p.acked / 2 + more) p → q ≡ attempted k ok p
   unfolding attempted
   attempted_halved h f = let g : q ≡ with_counters (p.attempts / 2 + k) (p.acked / 2 + cond ok 1 0) p = rw (← e) f in search choices
@@ -26,9 +31,6 @@ module _ (p : Place) (k : ℕ) (ok : Bool) (more : ℕ) (q : Place) (e : more �
   pub attempted_plain : p.attempts + k ≤ 255 → q ≡ with_counters (p.attempts + k) (p.acked + more) p → q ≡ attempted k ok p
   unfolding attempted
   attempted_plain h f = let g : q ≡ with_counters (p.attempts + k) (p.acked + cond ok 1 0) p = rw (← e) f in search choices
-
-pub newcomer_is : (n r : ℕ) (b : Place) → b ≡ blank → ◌≡◌ {A = Place} (record { id = n; rank = r; attempts = b.attempts; acked = b.acked; used = true }) (newcomer n r)
-newcomer_is n r b e = ap (λ (z : Place). record { id = n; rank = r; attempts = z.attempts; acked = z.acked; used = true }) e
 
 -- ---- a table that breaks a rule
 pub empty_is : (b : Place) → b ≡ blank → ◌≡◌ {A = Table} (record { places = replicate 32 b; parent = None }) empty_table
@@ -42,22 +44,16 @@ module _ (p : Place) (x : Bool) (e : x ≡ unfit p) (u : x ≡ false) where
   pub fit_acked : p.acked ≤ 255
   fit_acked = omega (arith, fit_limits p (sym e ∙ u))
 
--- ---- forget
-module _ (n : ℕ) (q : Parent) where
-  pub without_none : q ≡ None → None ≡ without n q
-  unfolding without
-  without_none e = rw e
-
-  pub without_same : (m : ℕ) → q ≡ Held m → m ≡ n → None ≡ without n q
-  unfolding without
-  without_same m e h = rw e (search choices)
-
-  pub without_other : (m : ℕ) → q ≡ Held m → (m ≡ n → ⊥) → Held m ≡ without n q
-  unfolding without
-  without_other m e h = rw e (search choices)
+-- ---- forget: the held parent passes the test that it is another; G is what is known of the test
+pub without_is : {G : ℕ → Bool → Type 0} (q : Option ℕ) (n : ℕ) (r : Option ℕ) → MatchOption q (r ≡ None) (λ x. (b : Bool) × G x b × (r ≡ then_some b x)) → ((x : ℕ) (b : Bool) → G x b → b ≡ not (eqb x n)) → r ≡ without n q
+unfolding without if_eq
+without_is None n r h g = h
+without_is (Some x) n r h g =
+    let e = g x h.0 h.1 in
+    by_test (eqb x n) (λ u. h.2 ∙ rw (e, u) refl) (λ u. h.2 ∙ rw (e, u) refl)
 
 -- ---- evaluation
-module _ (q : Parent) (h b : Place) (x : Bool) (e : x ≡ eligible b) where
+module _ (q : Option ℕ) (h b : Place) (x : Bool) (e : x ≡ eligible b) where
   pub chosen_none : x ≡ false → choice None 65535 ≡ chosen q h b
   unfolding chosen
   chosen_none u = let a : eligible b ≡ false = sym e ∙ u in search choices
@@ -98,43 +94,5 @@ module _ (t : Table) (x : Bool) (e : x ≡ broken t) where
       ap (λ (y : Table). evaluation 0 y c.rank) w ∙ ap (settled t) k in
       search choices
 
--- ---- the held parent
-module _ (q : Parent) where
-  pub mark_held : (id : ℕ) → q ≡ Held id → true ≡ mark_of q
-  unfolding mark_of
-  mark_held id e = rw e
-
-  pub mark_none : q ≡ None → false ≡ mark_of q
-  unfolding mark_of
-  mark_none e = rw e
-
-  pub id_held : (id : ℕ) → q ≡ Held id → id ≡ id_of q
-  unfolding id_of
-  id_held id e = rw e
-
-  pub id_none : q ≡ None → 0 ≡ id_of q
-  unfolding id_of
-  id_none e = rw e
-
--- ---- two held parents
-module _ (q p : Parent) where
-  pub same_none : q ≡ None → p ≡ None → true ≡ same_parent q p
-  unfolding same_parent
-  same_none e f = rw (e, f)
-
-  pub same_gained : (m : ℕ) → q ≡ None → p ≡ Held m → false ≡ same_parent q p
-  unfolding same_parent
-  same_gained m e f = rw (e, f)
-
-  pub same_lost : (n : ℕ) → q ≡ Held n → p ≡ None → false ≡ same_parent q p
-  unfolding same_parent
-  same_lost n e f = rw (e, f)
-
-  pub same_held : (n m : ℕ) → q ≡ Held n → p ≡ Held m → eqb n m ≡ same_parent q p
-  unfolding same_parent
-  same_held n m e f = rw (e, f)
-
 -- one set for each crate of functions over a table
 pub ruleset emptyWays = (empty_is)
-
-pub ruleset sameWays = (mark_held, mark_none, id_held, id_none, same_none, same_gained, same_lost, same_held)

@@ -1,17 +1,22 @@
 -- The lowest offer is what the best place offers, and the choice of the parent by offers is the choice of the rules: each way out, as
--- the code meets it (`bestWays`, `settleWays`). Assumes nothing.
+-- the code meets it (`surveyWays`, `heldWays`, `settleWays`). Assumes nothing.
+use Rattle.std.proofs.Common.{Option, Some, None}
 use Prim.Native.Nat.{ℕ, suc, ◌+◌, ◌-◌, ◌<◌, ◌≤◌}
 use native.Mathlib.Numerals.{add-one}
 use native.Mathlib.Omega.{arith}
 use mathlib.Core.Path.{◌≡◌, refl, sym, ap, subst, ◌∙◌}
-use mathlib.Core.Bool.{Bool, true, false, ◌&&◌}
+use mathlib.Core.Bool.{Bool, true, false}
 use mathlib.Core.List.{List, [], ◌∷◌}
 use mathlib.Core.Logic.{◌⊎◌, ⊎_elim, inl, inr}
 use lib.ListN.{length, get_or, drop, drop_of_length-le}
 use lib.Seq.{drop-cons}
+use Rattle.std.proofs.lemmas.List.{get_or_past}
 use mir.Syntax.{w16}
 use mir.Val.{Fits}
-use Rattle.octets_spec.specs.Choice.{if_on}
+use Rattle.octets_spec.specs.Choice.{if_lt}
+use Rattle.std.specs.Ordering.{ord_min}
+use Rattle.nbr_table_spec.specs.contracts.OfferOrd.TheImpl.{cmp-value}
+use borrow.Author.Tests.{eq-eqb, le-ltb, lt-ltb, ne_eqb}
 use lib.Dec.{eqb}
 use Rattle.octets_spec.proofs.ChoiceLaws.{by_lt, by_test, choices}
 use Rattle.nbr_metric_spec.specs.declared.Place.{Place}
@@ -19,16 +24,15 @@ use Rattle.nbr_metric_spec.specs.Metric.{blank, eligible, offer, path_cost}
 use Rattle.nbr_metric_spec.proofs.MetricLaws.{blank_offers, cost_to, offer_eligible, offer_not, not_offered, offered}
 use Rattle.nbr_table_spec.specs.declared.Choice.{Choice}
 use Rattle.nbr_table_spec.specs.declared.Offer.{Offer}
-use Rattle.nbr_table_spec.specs.declared.Parent.{Parent}
-use Rattle.nbr_table_spec.specs.declared.Parent.TheVariants.{None, Held}
 use Rattle.nbr_table_spec.specs.declared.Settlement.{Settlement}
-use Rattle.nbr_table_spec.specs.declared.Sought.{Sought}
 use Rattle.nbr_table_spec.specs.declared.Survey.{Survey}
 use Rattle.nbr_table_spec.specs.declared.Table.{Table}
-use Rattle.nbr_table_spec.specs.Places.{best, best_of, better, first_of, named, lesser}
-use Rattle.nbr_table_spec.specs.Calls.{broken, choice, choice_of, chosen, evaluated, evaluation, held_place, id_of, mark_of, with_parent}
-use Rattle.nbr_table_spec.specs.Offers.{lower, lowest, offer_of, settlement, sought, surveyed}
-use Rattle.nbr_table_spec.proofs.PlaceLaws.{clash, better_both, better_new, better_old, lesser_id, lesser_kept, lesser_key, lesser_tie}
+use Rattle.nbr_table_spec.specs.Places.{best, best_of, better, named, lesser}
+use Rattle.nbr_table_spec.specs.Calls.{broken, choice, choice_of, chosen, evaluated, evaluation, held_place, with_parent}
+use Rattle.nbr_table_spec.specs.Offers.{lower, lowest, offer_of, settlement, surveyed}
+use Rattle.nbr_table_spec.specs.declared.Found.{Found as FoundGiven}
+use Rattle.nbr_table_spec.specs.Stores.{Found, first, found, found_of, index_in}
+use Rattle.nbr_table_spec.proofs.PlaceLaws.{first_at, better_both, better_new, better_old, lesser_id, lesser_kept, lesser_key, lesser_tie}
 use Rattle.nbr_table_spec.proofs.CallLaws.{chosen_best, chosen_change, chosen_keep, chosen_none, evaluated_broken, evaluated_done}
 
 -- ---- the lower of two offers
@@ -49,6 +53,19 @@ module _ (a b : Offer) where
     pub lower_tie : a.id ≤ b.id → a ≡ lower a b
     unfolding lower
     lower_tie i = search choices
+
+-- the order that Offer derives
+pub min_is : (a b r : Offer) → r ≡ ord_min (cmp-value).it a b → r ≡ lower a b
+unfolding lower if_lt
+min_is a b r e =
+    e
+    ∙ by_lt b.cost a.cost (λ h. rw (lt-ltb b.cost a.cost h) refl)
+    (λ g.
+    by_lt a.cost b.cost (λ h. rw (le-ltb b.cost a.cost g, lt-ltb a.cost b.cost h, ne_eqb b.cost a.cost (λ z. omega arith)) refl)
+    (λ h.
+    rw (le-ltb b.cost a.cost g, le-ltb a.cost b.cost h, eq-eqb b.cost a.cost (omega arith))
+    (by_lt b.id a.id (λ i. rw (lt-ltb b.id a.id i) refl)
+    (λ i. rw (le-ltb b.id a.id i) (by_test (eqb b.id a.id) (λ z. rw z refl) (λ z. rw z refl))))))
 
 -- the best so far is eligible, or the blank place
 abbrev Kept : Place → Type 0
@@ -107,69 +124,32 @@ module _ (o : Offer) (ps : List Place) (i : ℕ) (w : Offer) where
       let g : r ≡ lower o (offer_of (get_or ps i blank)) = f ∙ ap (λ (z : ℕ). lower o (record { cost = z; id = (get_or ps i blank).id })) e in
       rw add-one (subst (λ (z : Offer). lowest z (drop (suc i) ps) ≡ w) (sym g) (rw (drop-cons ps i blank l) at h))
 
-  pub lowest_end : (n : ℕ) → length ps ≡ n → n ≤ i → lowest o (drop i ps) ≡ w → o ≡ w
+  pub lowest_end : lowest o (drop i ps) ≡ w → length ps ≤ i → o ≡ w
   unfolding lowest
-  lowest_end n e l h = let k : length ps ≤ i = omega arith in rw (drop_of_length-le ps k) at h
+  lowest_end h l = rw (drop_of_length-le ps l) at h
 
--- ---- the held parent, looked for in the same walk
-module _ (id : ℕ) (found : Sought) (p : Place) where
-  pub sought_here : (found.missing && (p.used && eqb p.id id)) ≡ true → ◌≡◌ {A = Sought} (record { missing = false; place = p }) (sought id found p)
-  unfolding sought named
-  sought_here e = search choices
+-- ---- the held parent, looked for by its number; s is what the search gives
+module _ (q : Option ℕ) (ps : List Place) (b : Place) (e : b ≡ blank) where
+  pub held_none : q ≡ None → b ≡ held_place q ps
+  unfolding held_place
+  held_none f = rw f e
 
-  pub sought_before : (found.missing && (p.used && eqb p.id id)) ≡ false → found ≡ sought id found p
-  unfolding sought named
-  sought_before e = search choices
+  module _ (id : ℕ) (s : FoundGiven) (f : q ≡ Some id) (g : found_of s ≡ found id ps) where
+    index : index_in s.at ≡ first (named id) ps
+    index = ap (λ (z : Found). z.at) g
 
--- the held parent is found among the places passed, or still looked for among the others
-pub record Seeking (id : ℕ) (ps : List Place) (i : ℕ) (whole : Place) (found : Sought) : Type 0 where
-  pub wanted : found.missing ≡ true → (found.place ≡ blank) × (first_of (named id) (drop i ps) ≡ whole)
-  pub settled : found.missing ≡ false → found.place ≡ whole
+    pub held_at : (at : ℕ) → s.at ≡ Some at → get_or ps at blank ≡ held_place q ps
+    unfolding held_place
+    held_at at h = rw f (ap (λ (z : ℕ). get_or ps z blank) (sym (ap index_in h) ∙ index) ∙ first_at (named id) ps)
 
--- the place that is looked for, the blank one where none is
-unfoldable pub target : ℕ → List Place → Bool → Place
-target id ps held = if_on held (first_of (named id) ps) blank
-
-pub seeking_start : (ps : List Place) (held : Bool) (id : ℕ) (b : Place) → b ≡ blank → Seeking id ps 0 (target id ps held) (record { missing = held; place = b })
-unfolding target if_on
-seeking_start ps true id b g = record { wanted = λ h. (g, refl); settled = λ h. clash true refl h }
-seeking_start ps false id b g = record { wanted = λ h. clash false h refl; settled = λ h. g }
-
-target_is : (q : Parent) (ps : List Place) (held : Bool) (id : ℕ) → held ≡ mark_of q → id ≡ id_of q → target id ps held ≡ held_place q ps
-unfolding mark_of id_of held_place target if_on
-target_is None ps held id e f = rw e
-target_is (Held n) ps held id e f = rw (e, f)
-
-module _ (id : ℕ) (ps : List Place) (i : ℕ) (whole : Place) (found : Sought) (s : Seeking id ps i whole found) where
-  pub seeking_next : (r : Sought) → i < length ps → r ≡ sought id found (get_or ps i blank) → Seeking id ps (i + 1) whole r
-  unfolding first_of named
-  seeking_next r l e =
-      by_test found.missing
-      (λ m.
-      by_test (named id (get_or ps i blank))
-      (λ n.
-      let k : r ≡ record { missing = false; place = get_or ps i blank } = e ∙ sym (sought_here id found (get_or ps i blank) (rw m n)) in
-      let g : get_or ps i blank ≡ whole = rw (drop-cons ps i blank l, n) at (s.wanted m).1 in
-      record { wanted = λ h. clash r.missing h (ap (λ (z : Sought). z.missing) k); settled = λ h. ap (λ (z : Sought). z.place) k ∙ g })
-      (λ n.
-      let k : r ≡ found = e ∙ sym (sought_before id found (get_or ps i blank) (rw m n)) in
-      let g : first_of (named id) (drop (suc i) ps) ≡ whole = rw (drop-cons ps i blank l, n) at (s.wanted m).1 in
-      record { wanted = λ h. (ap (λ (z : Sought). z.place) k ∙ (s.wanted m).0, rw add-one g); settled = λ h. clash r.missing (ap (λ (z : Sought). z.missing) k ∙ m) h }))
-      (λ m.
-      let k : r ≡ found = e ∙ sym (sought_before id found (get_or ps i blank) (rw m)) in
-      record { wanted = λ h. clash r.missing h (ap (λ (z : Sought). z.missing) k ∙ m); settled = λ h. ap (λ (z : Sought). z.place) k ∙ s.settled m })
-
-  seeking_end : (n : ℕ) → length ps ≡ n → n ≤ i → found.place ≡ whole
-  unfolding first_of
-  seeking_end n e l =
-      let k : length ps ≤ i = omega arith in
-      by_test found.missing (λ m. (s.wanted m).0 ∙ (rw (drop_of_length-le ps k) at (s.wanted m).1)) (λ m. s.settled m)
-
-  surveyed_is : (n : ℕ) (q : Parent) (held : Bool) (o : Offer) → length ps ≡ n → n ≤ i → whole ≡ target id ps held → held ≡ mark_of q → id ≡ id_of q → lowest o (drop i ps) ≡ offer_of (best ps) → ◌≡◌ {A = Survey} (record { best = o; held = found.place }) (surveyed ps q)
-  surveyed_is n q held o e l d m k h = λ j. record { best = lowest_end o ps i (offer_of (best ps)) n e l h j; held = (seeking_end n e l ∙ d ∙ target_is q ps held id m k) j }
+    pub held_missing : s.at ≡ None → length ps ≡ 32 → b ≡ held_place q ps
+    unfolding held_place
+    held_missing h l =
+        let k : 32 ≡ first (named id) ps = sym (ap index_in h) ∙ index in
+        rw f (e ∙ sym (get_or_past ps 32 blank (omega arith)) ∙ ap (λ (z : ℕ). get_or ps z blank) k ∙ first_at (named id) ps)
 
 -- ---- the choice by offers
-module _ (q : Parent) (ps : List Place) (v : Survey) (x : ℕ) (d : v ≡ surveyed ps q) (e₀ : x ≡ offer v.held) where
+module _ (q : Option ℕ) (ps : List Place) (v : Survey) (x : ℕ) (d : v ≡ surveyed ps q) (e₀ : x ≡ offer v.held) where
   abbrev h : Place
   h = held_place q ps
 
@@ -196,14 +176,14 @@ module _ (q : Parent) (ps : List Place) (v : Survey) (x : ℕ) (d : v ≡ survey
   settled_none g = with_held (choice None 65535) (chosen_none q h b (eligible b) refl (not_offered b o.cost cost g))
 
   module _ (g : v.best.cost < 65535) where
-    best_is : choice (Held o.id) o.cost ≡ choice_of b
-    best_is = λ i. choice (Held (f i).id) ((offered b o.cost cost g).1 i)
+    best_is : choice (Some o.id) o.cost ≡ choice_of b
+    best_is = λ i. choice (Some (f i).id) ((offered b o.cost cost g).1 i)
 
-    pub settled_best : (r : Choice) → 65535 ≤ x → r ≡ choice (Held v.best.id) v.best.cost → ◌≡◌ {A = Settlement} (record { choice = r; held = v.held }) (settlement ps q)
+    pub settled_best : (r : Choice) → 65535 ≤ x → r ≡ choice (Some v.best.id) v.best.cost → ◌≡◌ {A = Settlement} (record { choice = r; held = v.held }) (settlement ps q)
     settled_best r l k = with_held r (chosen_best q h b (eligible b) refl (eligible h) (offered b o.cost cost g).0 refl r (not_offered h x e l) (k ∙ best_is))
 
     module _ (l : x < 65535) where
-      pub settled_change : (r : Choice) → v.best.cost + 640 < x → r ≡ choice (Held v.best.id) v.best.cost → ◌≡◌ {A = Settlement} (record { choice = r; held = v.held }) (settlement ps q)
+      pub settled_change : (r : Choice) → v.best.cost + 640 < x → r ≡ choice (Some v.best.id) v.best.cost → ◌≡◌ {A = Settlement} (record { choice = r; held = v.held }) (settlement ps q)
       settled_change r m k =
           let c = offered b o.cost cost g in
           let a = offered h x e l in
@@ -219,12 +199,9 @@ module _ (q : Parent) (ps : List Place) (v : Survey) (x : ℕ) (d : v ≡ survey
 pub offer_fits : (k : ℕ) → k < 65535 → Fits w16 k
 offer_fits k h = record { fits = omega arith }
 
-pub ruleset bestWays = (lower_cost, lower_kept, lower_id, lower_tie, sought_here, sought_before)
+pub ruleset heldWays = (held_none, held_at, held_missing)
 
-pub survey_is : (id : ℕ) (ps : List Place) (i : ℕ) (held : Bool) (found : Sought) (n : ℕ) (q : Parent) (o : Offer) → Seeking id ps i (target id ps held) found → length ps ≡ n → n ≤ i → held ≡ mark_of q → id ≡ id_of q → lowest o (drop i ps) ≡ offer_of (best ps) → ◌≡◌ {A = Survey} (record { best = o; held = found.place }) (surveyed ps q)
-survey_is id ps i held found n q o s e l m k h = surveyed_is id ps i (target id ps held) found s n q held o e l refl m k h
-
-pub ruleset surveyWays = (lowest_start, lowest_next, seeking_start, seeking_next, survey_is)
+pub ruleset surveyWays = (min_is, lowest_start, lowest_next, lowest_end)
 
 pub ruleset settleWays = (offer_fits, settled_none, settled_best, settled_change, settled_keep)
 
@@ -232,4 +209,13 @@ pub ruleset settleWays = (offer_fits, settled_none, settled_best, settled_change
 pub evaluated_settled : (t v : Table) (x : Bool) (m : Settlement) → x ≡ broken t → x ≡ false → m ≡ settlement t.places t.parent → v ≡ with_parent t m.choice.parent → evaluation 0 v m.choice.rank ≡ evaluated t
 evaluated_settled t v x m e u k w = evaluated_done t x e m.choice v u (ap (λ (z : Settlement). z.choice) k) w
 
-pub ruleset evaluateWays = (evaluated_broken, evaluated_settled)
+-- as the code meets it: a is the table that the call goes on with
+pub evaluate_broken : (t : Table) (m : ℕ) → m ≡ 8 → broken t ≡ true → evaluation m t 65535 ≡ evaluated t
+evaluate_broken t m e b = rw e (evaluated_broken t (broken t) refl b)
+
+pub evaluate_settled : (t a : Table) (k : (a ≡ t) × (broken t ≡ false)) (s : Settlement) → s ≡ settlement a.places a.parent → evaluation 0 (record { places = a.places; parent = s.choice.parent }) s.choice.rank ≡ evaluated t
+evaluate_settled t a k s e =
+    subst (λ (z : Table). s ≡ settlement z.places z.parent → evaluation 0 (record { places = z.places; parent = s.choice.parent }) s.choice.rank ≡ evaluated t) (sym k.0)
+    (λ g. evaluated_settled t (with_parent t s.choice.parent) (broken t) s refl k.1 g refl) e
+
+pub ruleset evaluateWays = (evaluate_broken, evaluate_settled)

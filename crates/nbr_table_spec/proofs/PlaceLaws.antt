@@ -1,32 +1,30 @@
 -- The laws of places: each way out of a function over places, as the code meets it (the rulesets at the end), and how what
 -- is found by number is what the definitions speak of. Assumes nothing.
-use Prim.Native.Nat.{ℕ, zero, suc, ◌+◌, ◌-◌, ◌<◌, ◌≤◌}
+use Prim.Native.Nat.{ℕ, zero, suc, ◌+◌, ◌<◌, ◌≤◌}
 use native.Mathlib.Numerals.{add-one}
 use native.Mathlib.Omega.{arith}
-use mathlib.Core.Path.{◌≡◌, refl, ap, subst, ◌∙◌}
-use mathlib.Core.Bool.{Bool, true, false, cond, not, ◌&&◌, ◌||◌}
+use mathlib.Core.Path.{◌≡◌, refl, sym, ap, subst, ◌∙◌}
+use mathlib.Core.Bool.{Bool, true, false, not, ◌&&◌, ◌||◌}
 use mathlib.Core.List.{List, [], ◌∷◌}
 use lib.ListN.{length, get_or, drop, set, drop_of_length-le}
 use lib.Seq.{drop-cons}
 use lib.Dec.{ltb, eqb}
-use borrow.Author.Tests.{ltb-false}
+use borrow.Author.Tests.{le-ltb, lt-ltb, ltb-false}
 use Rattle.octets_spec.specs.Choice.{if_on}
-use Rattle.octets_spec.proofs.ChoiceLaws.{by_test, choices}
+use Rattle.octets_spec.proofs.ChoiceLaws.{by_lt, by_test, choices}
 use Rattle.nbr_metric_spec.specs.declared.Place.{Place}
 use Rattle.nbr_metric_spec.specs.Metric.{blank}
 use Rattle.nbr_table_spec.specs.Places.{better, change_first, first_of, free, named, lesser, nonzero, some_place, unfit}
-use Rattle.nbr_table_spec.specs.declared.Found.{Found}
-use Rattle.nbr_table_spec.specs.Stores.{first, found}
+use Rattle.nbr_table_spec.specs.Stores.{first, found, found_of, index_in}
+use Rattle.std.proofs.Common.{Option, IfSome, position}
+use Rattle.std.specs.List.{position_or_len}
+use Rattle.std.proofs.lemmas.List.Recursion.{is_position_or_len}
 
 -- ---- one place
 module _ (p : Place) where
-  pub named_used : (n : ℕ) → p.used ≡ true → eqb p.id n ≡ named n p
+  pub named_is : (n : ℕ) → (p.used && eqb p.id n) ≡ named n p
   unfolding named
-  named_used n u = rw u
-
-  pub named_free : (n : ℕ) → p.used ≡ false → false ≡ named n p
-  unfolding named
-  named_free n u = rw u
+  named_is n = refl
 
   pub nonzero_is : (ltb 0 p.id || (ltb 0 p.rank || (ltb 0 p.attempts || ltb 0 p.acked))) ≡ nonzero p
   unfolding nonzero
@@ -50,33 +48,33 @@ pub some_end : (f : Place → Bool) (ps : List Place) (i n : ℕ) (w : Bool) →
 unfolding some_place
 some_end f ps i n w e l h = let k : length ps ≤ i = omega arith in rw (drop_of_length-le ps k) at h
 
--- ---- the walk from the end: the first place from here on
-pub first_start : (f : Place → Bool) (ps : List Place) → length ps ≡ 32 → 32 ≡ 32 + first f (drop 32 ps)
-unfolding first
-first_start f ps e = let l : length ps ≤ 32 = omega arith in rw (drop_of_length-le ps l) (omega arith)
-
-module _ (ps : List Place) (i w r : ℕ) (h : 0 < i) (g : i ≤ 32) (l : length ps ≡ 32) where
-  back : (f : Place → Bool) → w ≡ i + first f (drop i ps) → r ≡ cond (f (get_or ps (i - 1) blank)) (i - 1) w → r ≡ (i - 1) + first f (drop (i - 1) ps)
+-- ---- looking for the first place
+module _ (f : Place → Bool) where
+  first_position : (ps : List Place) → first f ps ≡ position_or_len f ps
   unfolding first
-  back f e k =
-      let m : w ≡ suc (i - 1) + first f (drop (suc (i - 1)) ps) = subst (λ (z : ℕ). w ≡ z + first f (drop z ps)) (omega arith) e in
-      by_test (f (get_or ps (i - 1) blank))
-      (λ u. let v : r ≡ i - 1 = rw u at k in rw (drop-cons ps (i - 1) blank (omega arith), u) (omega arith))
-      (λ u. let v : r ≡ w = rw u at k in rw (drop-cons ps (i - 1) blank (omega arith), u) (omega arith))
+  first_position ps = is_position_or_len (first f) f refl (λ p ps. by_test (f p) (λ e. rw e) (λ e. rw e (omega arith))) ps
 
-  pub named_back : (n : ℕ) (x : Bool) → w ≡ i + first (named n) (drop i ps) → x ≡ named n (get_or ps (i - 1) blank) → r ≡ cond x (i - 1) w → r ≡ (i - 1) + first (named n) (drop (i - 1) ps)
-  named_back n x e k d = back (named n) e (d ∙ ap (λ (z : Bool). cond z (i - 1) w) k)
+  first_within : (ps : List Place) → first f ps ≤ length ps
+  unfolding first
+  first_within [] = omega arith
+  first_within (p ∷ ps) = by_test (f p) (λ e. rw e (omega arith)) (λ e. rw e (omega (arith, first_within ps)))
 
-  pub free_back : w ≡ i + first free (drop i ps) → r ≡ cond (get_or ps (i - 1) blank).used w (i - 1) → r ≡ (i - 1) + first free (drop (i - 1) ps)
-  unfolding free
-  free_back e d = back free e (by_test (get_or ps (i - 1) blank).used (λ u. rw u (rw u at d)) (λ u. rw u (rw u at d)))
+  index_position : (ps : List Place) → length ps ≡ 32 → index_in (position f ps) ≡ first f ps
+  index_position ps l =
+      let k = first_within ps in
+      by_lt (position_or_len f ps) (length ps)
+      (λ h. rw (lt-ltb (position_or_len f ps) (length ps) h) (sym (first_position ps)))
+      (λ h. rw (le-ltb (position_or_len f ps) (length ps) h) (omega (arith, first_position ps)))
 
-pub found_is : (ps : List Place) (n at unused i : ℕ) → at ≡ i + first (named n) (drop i ps) → unused ≡ i + first free (drop i ps) → i ≤ 0 → ◌≡◌ {A = Found} (record { at = at; unused = unused }) (found n ps)
-found_is ps n at unused i e f h =
-    let z : i ≡ 0 = omega arith in
-    let a : at ≡ first (named n) ps = let k : at ≡ 0 + first (named n) ps = rw z at e in omega arith in
-    let b : unused ≡ first free ps = let k : unused ≡ 0 + first free ps = rw z at f in omega arith in
-    (λ j. record { at = a j; unused = b j })
+  pub position_inside : (ps : List Place) (r : Option ℕ) → length ps ≡ 32 → r ≡ position f ps → IfSome r (λ at. at < 32)
+  position_inside ps r l e =
+      subst (λ (z : Option ℕ). IfSome z (λ at. at < 32)) (sym e)
+      (by_lt (position_or_len f ps) (length ps)
+      (λ h. rw (lt-ltb (position_or_len f ps) (length ps) h) (omega arith))
+      (λ h. rw (le-ltb (position_or_len f ps) (length ps) h) tt))
+
+pub found_is : (ps : List Place) (n : ℕ) (own unused : Option ℕ) → length ps ≡ 32 → own ≡ position (named n) ps → unused ≡ position free ps → found_of (record { at = own; unused = unused }) ≡ found n ps
+found_is ps n own unused l e f = λ j. record { at = (ap index_in e ∙ index_position (named n) ps l) j; unused = (ap index_in f ∙ index_position free ps l) j }
 
 -- ---- the best place
 module _ (key : Place → ℕ) (b p : Place) where
@@ -158,6 +156,6 @@ fit_limits p e =
     (ltb-false 255 p.attempts n₁.0, ltb-false p.attempts p.acked n₂.0)
 
 -- one set for each crate of functions over places
-pub ruleset searchWays = (named_used, named_free, first_start, named_back, free_back, found_is)
+pub ruleset searchWays = (position_inside, found_is)
 
 pub ruleset limitWays = (nonzero_is, unfit_is)

@@ -1,61 +1,45 @@
 -- The walk over the places that gathers the identifiers in use finds what breaks a rule: each way out, as the code meets it (`scanWays`).
 -- Assumes nothing.
-use Prim.Native.Nat.{ℕ, zero, suc, ◌+◌, ◌<◌, ◌≤◌}
+use Rattle.std.proofs.Common.{Option, Some, None}
+use Prim.Native.Nat.{ℕ, suc, ◌+◌, ◌<◌, ◌≤◌}
 use native.Mathlib.Numerals.{add-one}
 use native.Mathlib.Omega.{arith}
 use mathlib.Core.Path.{◌≡◌, refl, sym, ap, ap₂, subst, ◌∙◌}
 use mathlib.Core.Bool.{Bool, true, false, not, ◌||◌, or-true, or-false, or_assoc}
 use mathlib.Core.List.{List, [], ◌∷◌, ◌++◌}
-use lib.ListN.{length, get_or, drop, set, take, drop_of_length-le}
-use lib.Seq.{drop-cons, take-suc, take-suc-set}
+use lib.ListN.{length, get_or, drop, take, drop_of_length-le, length-append}
+use lib.Seq.{drop-cons, take-suc}
 use lib.Dec.{eqb}
 use borrow.Author.Tests.{eq-eqb, eqb-false, eqb-true, ne_eqb}
 use Rattle.octets_spec.specs.Choice.{if_on}
 use Rattle.octets_spec.proofs.ChoiceLaws.{by_test}
 use Rattle.nbr_metric_spec.specs.declared.Place.{Place}
 use Rattle.nbr_metric_spec.specs.Metric.{blank}
-use Rattle.nbr_table_spec.specs.declared.Parent.{Parent}
-use Rattle.nbr_table_spec.specs.declared.Parent.TheVariants.{None, Held}
 use Rattle.nbr_table_spec.specs.Places.{known, named, some_place, twice, unfit}
 use Rattle.nbr_table_spec.specs.Calls.{broken, parent_missing}
-use Rattle.nbr_table_spec.specs.Scan.{among}
+use Rattle.std.specs.List.{list_any}
+use Rattle.std.proofs.lemmas.List.{take_all}
+use Rattle.std.proofs.lemmas.List.Folds.{list_any-append}
 use Rattle.nbr_table_spec.proofs.PlaceLaws.{some_end, some_found, some_next}
 
 eqb_swap : (a b : ℕ) → eqb a b ≡ eqb b a
 eqb_swap a b = by_test (eqb a b) (λ e. e ∙ sym (eq-eqb b a (sym (eqb-true a b e)))) (λ e. e ∙ sym (ne_eqb b a (λ h. eqb-false a b e (sym h))))
 
--- ---- an identifier among the first so many
-pub among_start : (id : ℕ) (ids : List ℕ) → false ≡ among id 0 ids
-unfolding among
-among_start id ids = refl
+-- ---- an identifier among those gathered
+module _ (id : ℕ) (ids : List ℕ) (i : ℕ) (found : Bool) (e : found ≡ list_any (eqb id) (take i ids)) where
+  pub among_next : i < length ids → (found || eqb id (get_or ids i 0)) ≡ list_any (eqb id) (take (i + 1) ids)
+  among_next h = rw (add-one, take-suc ids i 0 h, list_any-append (eqb id) (take i ids) (get_or ids i 0 ∷ []), e) (ap (λ (b : Bool). list_any (eqb id) (take i ids) || b) (sym (or-false (eqb id (get_or ids i 0)))))
 
-module _ (id : ℕ) (ids : List ℕ) (j : ℕ) (found : Bool) (e : found ≡ among id j ids) where
-  pub among_next : (found || eqb id (get_or ids j 0)) ≡ among id (j + 1) ids
-  unfolding among
-  among_next = rw (add-one, e)
+  pub among_end : length ids ≤ i → found ≡ list_any (eqb id) ids
+  among_end h = rw (take_all i ids h) at e
 
-  pub among_end : (n : ℕ) → j ≤ n → n ≤ j → found ≡ among id n ids
-  among_end n g h = let f : j ≡ n = omega arith in subst (λ (k : ℕ). found ≡ among id k ids) f e
-
--- the same of a list
-unfoldable pub within : ℕ → List ℕ → Bool
-within id [] = false
-within id (x ∷ ids) = eqb id x || within id ids
-
-within_snoc : (id x : ℕ) (ids : List ℕ) → within id (ids ++ x ∷ []) ≡ (within id ids || eqb id x)
-unfolding within
-within_snoc id x [] = or-false (eqb id x)
-within_snoc id x (y ∷ ids) = rw (within_snoc id x ids) (sym (or_assoc (eqb id y) (within id ids) (eqb id x)))
-
-among_take : (id n : ℕ) (ids : List ℕ) → n ≤ length ids → among id n ids ≡ within id (take n ids)
-unfolding among within
-among_take id zero ids l = refl
-among_take id (suc n) ids l = rw (take-suc ids n 0 (omega arith)) (ap (λ (b : Bool). b || eqb id (get_or ids n 0)) (among_take id n ids (omega arith)) ∙ sym (within_snoc id (get_or ids n 0) (take n ids)))
+within_snoc : (id x : ℕ) (ids : List ℕ) → list_any (eqb id) (ids ++ x ∷ []) ≡ (list_any (eqb id) ids || eqb id x)
+within_snoc id x ids = list_any-append (eqb id) ids (x ∷ []) ∙ ap (λ (b : Bool). list_any (eqb id) ids || b) (or-false (eqb id x))
 
 -- ---- an identifier that stands twice, from the identifiers gathered so far on
 unfoldable pub repeats : List ℕ → List Place → Bool
 repeats ids [] = false
-repeats ids (p ∷ ps) = if_on p.used (within p.id ids || repeats (ids ++ p.id ∷ []) ps) (repeats ids ps)
+repeats ids (p ∷ ps) = if_on p.used (list_any (eqb p.id) ids || repeats (ids ++ p.id ∷ []) ps) (repeats ids ps)
 
 -- some of these is known
 unfoldable known_of : List ℕ → List Place → Bool
@@ -79,10 +63,10 @@ swapped false true false d = refl
 swapped false false c d = refl
 
 module _ (p : Place) (ps : List Place) where
-  known_of_used : (ids : List ℕ) → p.used ≡ true → known_of ids (p ∷ ps) ≡ (within p.id ids || known_of ids ps)
-  unfolding known_of within some_place named
+  known_of_used : (ids : List ℕ) → p.used ≡ true → known_of ids (p ∷ ps) ≡ (list_any (eqb p.id) ids || known_of ids ps)
+  unfolding known_of some_place named
   known_of_used [] u = refl
-  known_of_used (x ∷ ids) u = rw (known_of_used ids u, u) (swapped (eqb p.id x) (known x ps) (within p.id ids) (known_of ids ps))
+  known_of_used (x ∷ ids) u = rw (known_of_used ids u, u) (swapped (eqb p.id x) (known x ps) (list_any (eqb p.id) ids) (known_of ids ps))
 
   known_of_free : (ids : List ℕ) → p.used ≡ false → known_of ids (p ∷ ps) ≡ known_of ids ps
   unfolding known_of some_place named
@@ -95,7 +79,7 @@ regrouped false true c d = refl
 regrouped false false c d = refl
 
 module _ (p : Place) (ps : List Place) where
-  repeats_used : (ids : List ℕ) → p.used ≡ true → repeats ids (p ∷ ps) ≡ (within p.id ids || repeats (ids ++ p.id ∷ []) ps)
+  repeats_used : (ids : List ℕ) → p.used ≡ true → repeats ids (p ∷ ps) ≡ (list_any (eqb p.id) ids || repeats (ids ++ p.id ∷ []) ps)
   unfolding repeats if_on
   repeats_used ids u = rw (repeats, u)
 
@@ -117,23 +101,23 @@ repeats_is ids [] = rw (known_of_none ids)
 repeats_is ids (p ∷ ps) =
     by_test p.used
     (λ u.
-    repeats_used p ps ids u ∙ ap (λ (b : Bool). within p.id ids || b) (repeats_is (ids ++ p.id ∷ []) ps ∙ ap (λ (b : Bool). b || twice ps) (known_of_snoc p.id ids ps))
-    ∙ regrouped (within p.id ids) (known_of ids ps) (known p.id ps) (twice ps) ∙ sym (ap₂ ◌||◌ (known_of_used p ps ids u) (twice_used p ps u)))
+    repeats_used p ps ids u ∙ ap (λ (b : Bool). list_any (eqb p.id) ids || b) (repeats_is (ids ++ p.id ∷ []) ps ∙ ap (λ (b : Bool). b || twice ps) (known_of_snoc p.id ids ps))
+    ∙ regrouped (list_any (eqb p.id) ids) (known_of ids ps) (known p.id ps) (twice ps) ∙ sym (ap₂ ◌||◌ (known_of_used p ps ids u) (twice_used p ps u)))
     (λ u. repeats_free p ps ids u ∙ repeats_is ids ps ∙ sym (ap₂ ◌||◌ (known_of_free p ps ids u) (twice_free p ps u)))
 
--- ---- the walk: the first n of ids are the identifiers in use of the first i places, and these break no rule
-pub record Scanned (ids : List ℕ) (n i : ℕ) (ps : List Place) : Type 0 where
+-- ---- the walk: these are the identifiers in use of the first i places, and these break no rule
+pub record Scanned (ids : List ℕ) (i : ℕ) (ps : List Place) : Type 0 where
   pub fit : some_place unfit (drop i ps) ≡ some_place unfit ps
-  pub apart : repeats (take n ids) (drop i ps) ≡ twice ps
-  pub there : (id : ℕ) → (within id (take n ids) || known id (drop i ps)) ≡ known id ps
-  pub few : n ≤ i
+  pub apart : repeats ids (drop i ps) ≡ twice ps
+  pub there : (id : ℕ) → (list_any (eqb id) ids || known id (drop i ps)) ≡ known id ps
+  pub few : length ids ≤ i
 
-pub scan_start : (ids : List ℕ) (ps : List Place) → Scanned ids 0 0 ps
-unfolding within known_of
-scan_start ids ps = record { fit = refl; apart = repeats_is [] ps; there = λ id. refl; few = omega arith }
+pub scan_start : (ids : List ℕ) (ps : List Place) → ids ≡ [] → Scanned ids 0 ps
+unfolding known_of
+scan_start ids ps e = subst (λ (z : List ℕ). Scanned z 0 ps) (sym e) (record { fit = refl; apart = repeats_is [] ps; there = λ id. refl; few = omega arith })
 
-module _ (ids : List ℕ) (n i : ℕ) (ps : List Place) (s : Scanned ids n i ps) (l : i < length ps) (x : Bool) (e : x ≡ unfit (get_or ps i blank)) where
-  pub scan_unfit : (q : Parent) → x ≡ true → true ≡ broken (record { places = ps; parent = q })
+module _ (ids : List ℕ) (i : ℕ) (ps : List Place) (s : Scanned ids i ps) (l : i < length ps) (x : Bool) (e : x ≡ unfit (get_or ps i blank)) where
+  pub scan_unfit : (q : Option ℕ) → x ≡ true → true ≡ broken (record { places = ps; parent = q })
   unfolding broken
   scan_unfit q u = rw (← some_found unfit ps i (some_place unfit ps) x l s.fit e u)
 
@@ -141,7 +125,7 @@ module _ (ids : List ℕ) (n i : ℕ) (ps : List Place) (s : Scanned ids n i ps)
     fits : some_place unfit (drop (i + 1) ps) ≡ some_place unfit ps
     fits = some_next unfit ps i (some_place unfit ps) x l s.fit e u
 
-    pub scan_free : (get_or ps i blank).used ≡ false → Scanned ids n (i + 1) ps
+    pub scan_free : (get_or ps i blank).used ≡ false → Scanned ids (i + 1) ps
     unfolding repeats if_on some_place named
     scan_free f =
         record {
@@ -151,50 +135,48 @@ module _ (ids : List ℕ) (n i : ℕ) (ps : List Place) (s : Scanned ids n i ps)
           few = omega (arith, s.few);
         }
 
-    module _ (y : Bool) (f : (get_or ps i blank).used ≡ true) (g₀ : y ≡ among (get_or ps i blank).id n ids) (h₃ : length ids ≡ 32) (h₁ : i < 32) where
-      g : y ≡ within (get_or ps i blank).id (take n ids)
-      g = g₀ ∙ among_take (get_or ps i blank).id n ids (omega (arith, s.few))
+    module _ (y : Bool) (f : (get_or ps i blank).used ≡ true) (lent : List ℕ) (k : lent ≡ ids) (g₀ : y ≡ list_any (eqb (get_or ps i blank).id) lent) where
+      g : y ≡ list_any (eqb (get_or ps i blank).id) ids
+      g = g₀ ∙ ap (list_any (eqb (get_or ps i blank).id)) k
 
-      next : (y || repeats (take n ids ++ (get_or ps i blank).id ∷ []) (drop (suc i) ps)) ≡ twice ps
+      next : (y || repeats (ids ++ (get_or ps i blank).id ∷ []) (drop (suc i) ps)) ≡ twice ps
       unfolding repeats if_on
       next = rw g (rw (drop-cons ps i blank l, f) at s.apart)
 
-      pub scan_twice : (q : Parent) → y ≡ true → true ≡ broken (record { places = ps; parent = q })
+      pub scan_twice : (q : Option ℕ) → y ≡ true → true ≡ broken (record { places = ps; parent = q })
       unfolding broken
       scan_twice q v = let t : true ≡ twice ps = rw v at next in rw (← t) (sym (or-true (some_place unfit ps)))
 
-      pub scan_used : y ≡ false → Scanned (set ids n (get_or ps i blank).id) (n + 1) (i + 1) ps
+      pub scan_used : (after : List ℕ) → y ≡ false → after ≡ ids ++ (get_or ps i blank).id ∷ [] → Scanned after (i + 1) ps
       unfolding some_place named
-      scan_used v =
-          let m : n < length ids = omega (arith, s.few) in
-          record {
+      scan_used after v w =
+          subst (λ (z : List ℕ). Scanned z (i + 1) ps) (sym w) (record {
             fit = fits;
-            apart = rw (add-one, add-one, take-suc-set ids n (get_or ps i blank).id m) (rw v at next);
+            apart = rw add-one (rw v at next);
             there = λ id.
-                rw (add-one, add-one, take-suc-set ids n (get_or ps i blank).id m, within_snoc id (get_or ps i blank).id (take n ids))
-                (or_assoc (within id (take n ids)) (eqb id (get_or ps i blank).id) (known id (drop (suc i) ps))
+                rw (add-one, within_snoc id (get_or ps i blank).id ids)
+                (or_assoc (list_any (eqb id) ids) (eqb id (get_or ps i blank).id) (known id (drop (suc i) ps))
                 ∙ rw (eqb_swap id (get_or ps i blank).id) (rw (drop-cons ps i blank l, f) at (s.there id)));
-            few = omega (arith, s.few);
-          }
+            few = omega (arith, length-append ids ((get_or ps i blank).id ∷ []), s.few);
+          })
 
 -- ---- the end of the walk
-module _ (ids : List ℕ) (n i k : ℕ) (ps : List Place) (s : Scanned ids n i ps) (l : length ps ≡ k) (h : k ≤ i) where
-  clear : (some_place unfit ps ≡ false) × (twice ps ≡ false) × ((id : ℕ) → within id (take n ids) ≡ known id ps)
+module _ (ids : List ℕ) (i : ℕ) (ps : List Place) (s : Scanned ids i ps) (h : length ps ≤ i) where
+  clear : (some_place unfit ps ≡ false) × (twice ps ≡ false) × ((id : ℕ) → list_any (eqb id) ids ≡ known id ps)
   unfolding repeats some_place
   clear =
-      let m : length ps ≤ i = omega arith in
-      let d = drop_of_length-le ps m in
-      (sym (some_end unfit ps i k (some_place unfit ps) l h s.fit), sym (rw d at s.apart), λ id. sym (or-false (within id (take n ids))) ∙ (rw d at (s.there id)))
+      let d = drop_of_length-le ps h in
+      (sym (some_end unfit ps i (length ps) (some_place unfit ps) refl h s.fit), sym (rw d at s.apart), λ id. sym (or-false (list_any (eqb id) ids)) ∙ (rw d at (s.there id)))
 
-  module _ (q : Parent) where
+  module _ (q : Option ℕ) where
     pub scan_none : q ≡ None → false ≡ broken (record { places = ps; parent = q })
     unfolding broken parent_missing
     scan_none e = simp (clear.0, clear.1, e)
 
-    pub scan_held : (id : ℕ) (y : Bool) → q ≡ Held id → length ids ≡ 32 → i ≤ 32 → y ≡ among id n ids → not y ≡ broken (record { places = ps; parent = q })
+    pub scan_held : (id : ℕ) (y : Bool) (lent : List ℕ) → q ≡ Some id → lent ≡ ids → y ≡ list_any (eqb id) lent → not y ≡ broken (record { places = ps; parent = q })
     unfolding broken parent_missing
-    scan_held id y e m o f = simp (clear.0, clear.1, e, f, among_take id n ids (omega (arith, s.few)), clear.2 id)
+    scan_held id y lent e k f = simp (clear.0, clear.1, e, f, k, clear.2 id)
 
-pub ruleset standsWays = (among_start, among_next, among_end)
+pub ruleset standsWays = (among_next, among_end)
 
 pub ruleset scanWays = (scan_start, scan_unfit, scan_free, scan_twice, scan_used, scan_none, scan_held)

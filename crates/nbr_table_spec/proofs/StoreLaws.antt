@@ -1,5 +1,12 @@
 -- The laws of what advertise, report and forget store: each way out, as the code meets it (the rulesets at the end), and that the
 -- table so stored is the one of the rules. Assumes nothing.
+use Rattle.std.proofs.Common.{Option, Some, None, Result, Ok, Err, IfSome}
+use Rattle.std.specs.Option.{ok_or}
+use Rattle.refusal.specs.declared.Refusal.{Refusal}
+use Rattle.refusal.specs.declared.Refusal.TheVariants.{TableFull, UnknownNeighbour}
+use Rattle.refusal.specs.Refusal.{number_of}
+use Rattle.nbr_table_spec.specs.declared.Found.{Found as FoundGiven}
+use mathlib.Core.Logic.{◌⊎◌, ⊎_elim}
 use Prim.Native.Nat.{ℕ, ◌<◌, ◌≤◌}
 use mathlib.Core.Path.{◌≡◌, refl, sym, ap, subst, ◌∙◌}
 use mathlib.Core.Bool.{Bool, true, false, ◌||◌}
@@ -14,87 +21,106 @@ use Rattle.octets_spec.proofs.ChoiceLaws.{by_lt, by_test, choices}
 use Rattle.octets_spec.proofs.CountedLaws.{length_mapped}
 use Rattle.nbr_metric_spec.specs.declared.Place.{Place}
 use Rattle.nbr_metric_spec.specs.Metric.{blank}
-use Rattle.nbr_table_spec.specs.declared.Answer.{Answer}
-use Rattle.nbr_table_spec.specs.declared.Change.{Change}
-use Rattle.nbr_table_spec.specs.declared.Found.{Found}
-use Rattle.nbr_table_spec.specs.declared.Parent.{Parent}
-use Rattle.nbr_table_spec.specs.declared.Parent.TheVariants.{None, Held}
+use Rattle.nbr_table_spec.specs.Calls.{Answer, advertised, answer, broken, forgotten, parent_missing, reported, without}
+use Rattle.nbr_table_spec.specs.Stores.{Change, Found, found_of, index_in, advertising, change, first, forgetting, found, free_index, index_of, refusing, reporting, stored}
 use Rattle.nbr_table_spec.specs.declared.Table.{Table}
 use Rattle.nbr_table_spec.specs.Places.{change_first, free, known, named, nonzero, some_place, twice, unfit}
 use Rattle.nbr_table_spec.specs.Changes.{attempted, newcomer, with_rank}
-use Rattle.nbr_table_spec.specs.Calls.{advertised, answer, broken, forgotten, parent_missing, reported, without}
-use Rattle.nbr_table_spec.specs.Stores.{advertising, change, first, forgetting, found, free_index, index_of, refusing, reporting, stored}
 use Rattle.nbr_table_spec.proofs.PlaceLaws.{clash, missing, neither, none_at, present, set_first}
-use Rattle.nbr_table_spec.proofs.CallLaws.{attempted_halved, attempted_plain, fit_attempts, fit_acked, newcomer_is, without_none, without_other, without_same}
+use Rattle.nbr_table_spec.proofs.CallLaws.{attempted_halved, attempted_plain, fit_attempts, fit_acked}
 
-pub refusing_is : (number : ℕ) (b : Place) → b ≡ blank → change number 32 b ≡ refusing number
-refusing_is number b e = ap (change number 32) e
+-- ---- the code of each call
+abbrev error_in : Refusal → Result ℕ Refusal → Refusal
+error_in r (Ok x) = r
+error_in r (Err z) = z
 
--- ---- the code of each call; c is what a call that refuses answered
-module _ (ps : List Place) (n : ℕ) (f : Found) (s : f ≡ found n ps) where
-  index : f.at ≡ index_of n ps
+abbrev done_in : Result ℕ Refusal → ℕ
+done_in (Ok x) = 1
+done_in (Err z) = 0
+
+-- what `ok_or` refuses
+refused_none : (o : Option ℕ) (r z : Refusal) → ◌≡◌ {A = Result ℕ Refusal} (Err z) (ok_or o r) → (o ≡ None) × (z ≡ r)
+refused_none None r z e = (refl, ap (error_in r) e)
+refused_none (Some x) r z e = let h : ◌≡◌ {A = ℕ} 0 1 = ap done_in e in absurd (omega arith)
+
+module _ (ps : List Place) (n : ℕ) (f : FoundGiven) (s : found_of f ≡ found n ps) where
+  index : index_in f.at ≡ index_of n ps
   index = ap (λ (z : Found). z.at) s
 
-  module _ (w : f.at < 32) where
-    pub advertising_known : (rank : ℕ) (p : Place) → p ≡ with_rank rank (get_or ps f.at blank) → change 0 f.at p ≡ advertising ps n rank
+  unused : index_in f.unused ≡ free_index ps
+  unused = ap (λ (z : Found). z.unused) s
+
+  module _ (at : ℕ) (h : f.at ≡ Some at) (i : IfSome f.at (λ at. at < 32)) where
+    w : at < 32
+    w = subst (λ (z : Option ℕ). IfSome z (λ at. at < 32)) h i
+
+    here : at ≡ index_of n ps
+    here = sym (ap index_in h) ∙ index
+
+    pub advertising_known : (rank : ℕ) (p : Place) → p ≡ with_rank rank (get_or ps at blank) → change 0 at p ≡ advertising ps n rank
     unfolding advertising
-    advertising_known rank p g = rw (← index) (let h : change 0 f.at p ≡ change 0 f.at (with_rank rank (get_or ps f.at blank)) = ap (change 0 f.at) g in search choices)
+    advertising_known rank p g = rw (← here) (let k : change 0 at p ≡ change 0 at (with_rank rank (get_or ps at blank)) = ap (change 0 at) g in let v = w in search choices)
 
-    pub forgetting_known : (b : Place) → b ≡ blank → change 0 f.at b ≡ forgetting ps n
+    pub forgetting_known : (b : Place) → b ≡ blank → change 0 at b ≡ forgetting ps n
     unfolding forgetting
-    forgetting_known b g = rw (← index) (let h : change 0 f.at b ≡ change 0 f.at blank = ap (change 0 f.at) g in search choices)
+    forgetting_known b g = rw (← here) (let k : change 0 at b ≡ change 0 at blank = ap (change 0 at) g in let v = w in search choices)
 
-    module _ (k : ℕ) (ok : Bool) (x : Bool) (g : 1 ≤ k) (h : k ≤ 4) (e : x ≡ unfit (get_or ps f.at blank)) where
-      pub reporting_unfit : (c : Change) → x ≡ true → c ≡ refusing 8 → c ≡ reporting ps n k ok
+    module _ (k : ℕ) (ok : Bool) (x : Bool) (g : 1 ≤ k) (l : k ≤ 4) (e : x ≡ unfit (get_or ps at blank)) where
+      pub reporting_unfit : x ≡ true → refusing 8 ≡ reporting ps n k ok
       unfolding reporting
-      reporting_unfit c u d = rw (← index) (let a : unfit (get_or ps f.at blank) ≡ true = sym e ∙ u in search choices)
+      reporting_unfit u = rw (← here) (let a : unfit (get_or ps at blank) ≡ true = sym e ∙ u in let v = w in search choices)
 
-      pub reporting_known : (p : Place) → x ≡ false → p ≡ attempted k ok (get_or ps f.at blank) → change 0 f.at p ≡ reporting ps n k ok
+      pub reporting_known : (p : Place) → x ≡ false → p ≡ attempted k ok (get_or ps at blank) → change 0 at p ≡ reporting ps n k ok
       unfolding reporting
       reporting_known p u d =
-          rw (← index)
-          (let a : unfit (get_or ps f.at blank) ≡ false = sym e ∙ u in
-          let c : change 0 f.at p ≡ change 0 f.at (attempted k ok (get_or ps f.at blank)) = ap (change 0 f.at) d in
+          rw (← here)
+          (let a : unfit (get_or ps at blank) ≡ false = sym e ∙ u in
+          let c : change 0 at p ≡ change 0 at (attempted k ok (get_or ps at blank)) = ap (change 0 at) d in
+          let v = w in
           search choices)
 
-  module _ (w : 32 ≤ f.at) where
+  module _ (h : f.at ≡ None) where
+    beyond : 32 ≤ index_of n ps
+    beyond = omega (arith, sym (ap index_in h) ∙ index)
+
     module _ (rank : ℕ) where
-      unused : f.unused ≡ free_index ps
-      unused = ap (λ (z : Found). z.unused) s
-
-      pub advertising_new : (p : Place) → f.unused < 32 → p ≡ newcomer n rank → change 0 f.unused p ≡ advertising ps n rank
+      pub advertising_new : (at : ℕ) (p : Place) → f.unused ≡ Some at → IfSome f.unused (λ at. at < 32) → p ≡ newcomer n rank → change 0 at p ≡ advertising ps n rank
       unfolding advertising
-      advertising_new p h g = rw (← index, ← unused) (let d : change 0 f.unused p ≡ change 0 f.unused (newcomer n rank) = ap (change 0 f.unused) g in search choices)
+      advertising_new at p k i g =
+          let v : at < 32 = subst (λ (z : Option ℕ). IfSome z (λ at. at < 32)) k i in
+          let c : at ≡ free_index ps = sym (ap index_in k) ∙ unused in
+          rw (← c) (let d : change 0 at p ≡ change 0 at (newcomer n rank) = ap (change 0 at) g in let u = beyond in search choices)
 
-      pub advertising_full : (c : Change) → 32 ≤ f.unused → c ≡ refusing 11 → c ≡ advertising ps n rank
+      pub advertising_full : (z : Refusal) → ◌≡◌ {A = Result ℕ Refusal} (Err z) (ok_or f.unused TableFull) → refusing (number_of z) ≡ advertising ps n rank
       unfolding advertising
-      advertising_full c h g = rw (← index, ← unused) (search choices)
+      advertising_full z e =
+          let r = refused_none f.unused TableFull z e in
+          let v : 32 ≤ free_index ps = omega (arith, sym (ap index_in r.0) ∙ unused) in
+          rw r.1 (let u = beyond in search choices)
 
-    pub reporting_unknown : (k : ℕ) (ok : Bool) (c : Change) → 1 ≤ k → k ≤ 4 → c ≡ refusing 10 → c ≡ reporting ps n k ok
+  module _ (z : Refusal) (e : ◌≡◌ {A = Result ℕ Refusal} (Err z) (ok_or f.at UnknownNeighbour)) where
+    pub reporting_unknown : (k : ℕ) (ok : Bool) → 1 ≤ k → k ≤ 4 → refusing (number_of z) ≡ reporting ps n k ok
     unfolding reporting
-    reporting_unknown k ok c g h d = rw (← index) (search choices)
+    reporting_unknown k ok g h =
+        let r = refused_none f.at UnknownNeighbour z e in rw r.1 (let u = beyond r.0 in search choices)
 
-    pub forgetting_unknown : (c : Change) → c ≡ refusing 10 → c ≡ forgetting ps n
+    pub forgetting_unknown : refusing (number_of z) ≡ forgetting ps n
     unfolding forgetting
-    forgetting_unknown c g = rw (← index) (search choices)
+    forgetting_unknown = let r = refused_none f.at UnknownNeighbour z e in rw r.1 (let u = beyond r.0 in search choices)
 
-module _ (ps : List Place) (n k : ℕ) (ok : Bool) (c : Change) (f : c ≡ refusing 8) where
-  pub reporting_none : k < 1 → c ≡ reporting ps n k ok
-  unfolding reporting
-  reporting_none h = search choices
-
-  pub reporting_many : 1 ≤ k → 4 < k → c ≡ reporting ps n k ok
-  unfolding reporting
-  reporting_many g h = search choices
+pub reporting_number : (ps : List Place) (n k : ℕ) (ok : Bool) → (k < 1) ⊎ (4 < k) → refusing 8 ≡ reporting ps n k ok
+unfolding reporting
+reporting_number ps n k ok h =
+    ⊎_elim (λ g. let l : k < 1 = g in search choices) (λ g. let l : 1 ≤ k = omega arith in let m : 4 < k = g in search choices) h
 
 -- ---- the table so stored is the one of the rules
 module _ (t : Table) (l : length t.places ≡ 32) where
   -- a refusal stores nothing
-  nothing_stored : (number : ℕ) (q : Parent) → q ≡ t.parent → answer number (record { places = set t.places 32 blank; parent = q }) ≡ answer number t
-  nothing_stored number q e = ap (λ (ps : List Place). answer number (record { places = ps; parent = q })) (set_out t.places 32 blank (omega arith)) ∙ ap (λ (p : Parent). answer number (record { places = t.places; parent = p })) e
+  nothing_stored : (number : ℕ) (q : Option ℕ) → q ≡ t.parent → answer number (record { places = set t.places 32 blank; parent = q }) ≡ answer number t
+  nothing_stored number q e = ap (λ (ps : List Place). answer number (record { places = ps; parent = q })) (set_out t.places 32 blank (omega arith)) ∙ ap (λ (p : Option ℕ). answer number (record { places = t.places; parent = p })) e
 
   -- the first place that passes a test is changed
-  one_stored : (f : Place → Bool) (g : Place → Place) (q : Parent) → answer 0 (record { places = set t.places (first f t.places) (g (get_or t.places (first f t.places) blank)); parent = q }) ≡ answer 0 (record { places = change_first f g t.places; parent = q })
+  one_stored : (f : Place → Bool) (g : Place → Place) (q : Option ℕ) → answer 0 (record { places = set t.places (first f t.places) (g (get_or t.places (first f t.places) blank)); parent = q }) ≡ answer 0 (record { places = change_first f g t.places; parent = q })
   one_stored f g q = ap (λ (ps : List Place). answer 0 (record { places = ps; parent = q })) (set_first f g t.places)
 
   some_at : (f : Place → Bool) → first f t.places < 32 → some_place f t.places ≡ true
@@ -126,10 +152,10 @@ module _ (t : Table) (l : length t.places ≡ 32) where
     parent_there =
         (neither (twice t.places) (parent_missing t.parent t.places) (neither (some_place unfit t.places) (twice t.places || parent_missing t.parent t.places) b).1).1
 
-  without_unknown : (n : ℕ) (q : Parent) → parent_missing q t.places ≡ false → known n t.places ≡ false → without n q ≡ q
+  without_unknown : (n : ℕ) (q : Option ℕ) → parent_missing q t.places ≡ false → known n t.places ≡ false → without n q ≡ q
   unfolding parent_missing without if_eq
   without_unknown n None h k = refl
-  without_unknown n (Held m) h k =
+  without_unknown n (Some m) h k =
       by_test (eqb m n) (λ e. clash (known n t.places) (subst (λ (z : ℕ). known z t.places ≡ true) (eqb-true m n e) (not-false (known m t.places) h)) k) (λ e. rw e)
 
   pub reported_stored : (n k : ℕ) (ok : Bool) → stored t (reporting t.places n k ok) t.parent ≡ reported t n k ok
@@ -158,8 +184,16 @@ module _ (t : Table) (l : length t.places ≡ 32) where
       rw (b, le-ltb (index_of n t.places) 32 w, none_below (named n) w)
       (nothing_stored 10 (without n t.parent) (without_unknown n t.parent (parent_there b) (none_below (named n) w)))))
 
--- ---- storing, as the code meets it
-module _ (t : Table) (c : Change) (q : Parent) (x : Bool) (e : x ≡ broken t) where
+  -- where forget is refused, the neighbour is not in the table
+  unknown : (n m : ℕ) → refusing m ≡ forgetting t.places n → known n t.places ≡ false
+  unfolding forgetting if_lt
+  unknown n m e =
+      by_lt (index_of n t.places) 32
+      (λ w. let d : 32 ≡ index_of n t.places = ap (λ (z : Change). z.at) (rw (lt-ltb (index_of n t.places) 32 w) at e) in absurd (omega arith))
+      (λ w. none_below (named n) w)
+
+-- ---- storing, for the crates above
+module _ (t : Table) (c : Change) (q : Option ℕ) (x : Bool) (e : x ≡ broken t) where
   pub store_refused : x ≡ true → answer 8 t ≡ stored t c q
   unfolding stored
   store_refused u = let b : broken t ≡ true = sym e ∙ u in search choices
@@ -168,10 +202,7 @@ module _ (t : Table) (c : Change) (q : Parent) (x : Bool) (e : x ≡ broken t) w
   unfolding stored
   store_place u = let b : broken t ≡ false = sym e ∙ u in search choices
 
-  pub store_nothing : x ≡ false → length t.places ≡ 32 → 32 ≤ c.at → answer c.number (record { places = t.places; parent = q }) ≡ stored t c q
-  store_nothing u l h = ap (λ (ps : List Place). answer c.number (record { places = ps; parent = q })) (sym (set_out t.places c.at c.place (omega arith))) ∙ store_place u
-
--- the calls, as the code meets them
+-- what a call stores is what it answers, for the crates above
 module _ (t : Table) (n : ℕ) (c : Change) (l : length t.places ≡ 32) (r : Answer) where
   pub advertise_done : (rank : ℕ) → c ≡ advertising t.places n rank → r ≡ stored t c t.parent → r ≡ advertised t n rank
   advertise_done rank e f = f ∙ ap (λ (z : Change). stored t z t.parent) e ∙ advertised_stored t l n rank
@@ -179,14 +210,68 @@ module _ (t : Table) (n : ℕ) (c : Change) (l : length t.places ≡ 32) (r : An
   pub report_done : (k : ℕ) (ok : Bool) → c ≡ reporting t.places n k ok → r ≡ stored t c t.parent → r ≡ reported t n k ok
   report_done k ok e f = f ∙ ap (λ (z : Change). stored t z t.parent) e ∙ reported_stored t l n k ok
 
-  pub forget_done : (q : Parent) → c ≡ forgetting t.places n → q ≡ without n t.parent → r ≡ stored t c q → r ≡ forgotten t n
-  forget_done q e g f = f ∙ ap (λ (z : Parent). stored t c z) g ∙ ap (λ (z : Change). stored t z (without n t.parent)) e ∙ forgotten_stored t l n
+  pub forget_done : (q : Option ℕ) → c ≡ forgetting t.places n → q ≡ without n t.parent → r ≡ stored t c q → r ≡ forgotten t n
+  forget_done q e g f = f ∙ ap (λ (z : Option ℕ). stored t c z) g ∙ ap (λ (z : Change). stored t z (without n t.parent)) e ∙ forgotten_stored t l n
+
+-- ---- the calls, as the code meets them: a is the table that the call goes on with
+module _ (t : Table) (m : ℕ) (e : m ≡ 8) (b : broken t ≡ true) (n : ℕ) where
+  pub advertise_broken : (rank : ℕ) → answer m t ≡ advertised t n rank
+  unfolding advertised
+  advertise_broken rank = rw e (search choices)
+
+  pub report_broken : (k : ℕ) (ok : Bool) → answer m t ≡ reported t n k ok
+  unfolding reported
+  report_broken k ok = rw e (search choices)
+
+  pub forget_broken : answer m t ≡ forgotten t n
+  unfolding forgotten
+  forget_broken = rw e (search choices)
+
+module _ (t a : Table) (k : (a ≡ t) × (broken t ≡ false)) (l : length a.places ≡ 32) (n : ℕ) where
+  all : length t.places ≡ 32
+  all = subst (λ (z : Table). length z.places ≡ 32) k.0 l
+
+  put : (c : Change) (q : Option ℕ) → answer c.number (record { places = set a.places c.at c.place; parent = q }) ≡ stored t c q
+  put c q = subst (λ (z : Table). answer c.number (record { places = set z.places c.at c.place; parent = q }) ≡ stored t c q) (sym k.0) (store_place t c q (broken t) refl k.1)
+
+  -- a refusal leaves the table as it was
+  kept : (m : ℕ) (q : Option ℕ) → q ≡ t.parent → answer m t ≡ stored t (refusing m) q
+  kept m q e = sym (nothing_stored t all m q e) ∙ store_place t (refusing m) q (broken t) refl k.1
+
+  module _ (m : ℕ) where
+    pub advertise_refused : (rank : ℕ) → refusing m ≡ advertising a.places n rank → answer m t ≡ advertised t n rank
+    advertise_refused rank e =
+        kept m t.parent refl ∙ ap (λ (z : Change). stored t z t.parent) (e ∙ ap (λ (z : Table). advertising z.places n rank) k.0) ∙ advertised_stored t all n rank
+
+    pub report_refused : (j : ℕ) (ok : Bool) → refusing m ≡ reporting a.places n j ok → answer m t ≡ reported t n j ok
+    report_refused j ok e =
+        kept m t.parent refl ∙ ap (λ (z : Change). stored t z t.parent) (e ∙ ap (λ (z : Table). reporting z.places n j ok) k.0) ∙ reported_stored t all n j ok
+
+    pub forget_refused : refusing m ≡ forgetting a.places n → answer m t ≡ forgotten t n
+    forget_refused e =
+        let d : refusing m ≡ forgetting t.places n = e ∙ ap (λ (z : Table). forgetting z.places n) k.0 in
+        kept m (without n t.parent) (without_unknown t all n t.parent (parent_there t all k.1) (unknown t all n m d))
+        ∙ ap (λ (z : Change). stored t z (without n t.parent)) d ∙ forgotten_stored t all n
+
+  module _ (at : ℕ) (p : Place) where
+    pub advertise_stored : (rank : ℕ) → change 0 at p ≡ advertising a.places n rank → answer 0 (record { places = set a.places at p; parent = a.parent }) ≡ advertised t n rank
+    advertise_stored rank e =
+        put (change 0 at p) a.parent ∙ ap (λ (z : Change). stored t z a.parent) e
+        ∙ ap (λ (z : Table). stored t (advertising z.places n rank) z.parent) k.0 ∙ advertised_stored t all n rank
+
+    pub report_stored : (j : ℕ) (ok : Bool) → change 0 at p ≡ reporting a.places n j ok → answer 0 (record { places = set a.places at p; parent = a.parent }) ≡ reported t n j ok
+    report_stored j ok e =
+        put (change 0 at p) a.parent ∙ ap (λ (z : Change). stored t z a.parent) e
+        ∙ ap (λ (z : Table). stored t (reporting z.places n j ok) z.parent) k.0 ∙ reported_stored t all n j ok
+
+    pub forget_stored : (q : Option ℕ) → change 0 at p ≡ forgetting a.places n → q ≡ without n a.parent → answer 0 (record { places = set a.places at p; parent = q }) ≡ forgotten t n
+    forget_stored q e g =
+        put (change 0 at p) q ∙ ap (λ (z : Option ℕ). stored t (change 0 at p) z) g ∙ ap (λ (z : Change). stored t z (without n a.parent)) e
+        ∙ ap (λ (z : Table). stored t (forgetting z.places n) (without n z.parent)) k.0 ∙ forgotten_stored t all n
 
 -- one set for each call
-pub ruleset storeWays = (length_mapped, refusing_is, store_refused, store_place, store_nothing)
+pub ruleset advertiseWays = (length_mapped, advertising_known, advertising_new, advertising_full, advertise_broken, advertise_refused, advertise_stored)
 
-pub ruleset advertiseWays = (length_mapped, newcomer_is, advertising_known, advertising_new, advertising_full, advertise_done)
+pub ruleset reportWays = (length_mapped, attempted_halved, attempted_plain, fit_attempts, fit_acked, reporting_number, reporting_unfit, reporting_known, reporting_unknown, report_broken, report_refused, report_stored)
 
-pub ruleset reportWays = (length_mapped, attempted_halved, attempted_plain, fit_attempts, fit_acked, reporting_none, reporting_many, reporting_unfit, reporting_known, reporting_unknown, report_done)
-
-pub ruleset forgetWays = (length_mapped, without_none, without_same, without_other, forgetting_known, forgetting_unknown, forget_done)
+pub ruleset forgetWays = (length_mapped, forgetting_known, forgetting_unknown, forget_broken, forget_refused, forget_stored)

@@ -3,4 +3,3 @@ pub mod Changes
 pub mod Calls
 pub mod Stores
 pub mod Offers
-pub mod Scan

@@ -1,15 +1,13 @@
--- How the code goes about an evaluation: one walk over the places keeps the lowest offer so far, a cost and an identifier, and looks
--- for the held parent (docs/RULES.md, Neighbours). The best place of the rules stands in Places.antt; proofs/OfferLaws.antt shows that both agree. Assumes nothing.
-use Rattle.std.specs.Prelude.{ℕ, false, ◌&&◌, List, [], ◌∷◌}
-use Rattle.octets_spec.specs.Choice.{if_lt, if_on}
+-- How the code goes about an evaluation: one walk over the places keeps the lowest offer so far, a cost and an identifier; the held
+-- parent's place is looked for by itself (docs/RULES.md, Neighbours). The best place of the rules stands in Places.antt; proofs/OfferLaws.antt shows that both agree. Assumes nothing.
+use Rattle.std.specs.Prelude.{ℕ, List, [], ◌∷◌, Option}
+use Rattle.octets_spec.specs.Choice.{if_lt}
 use Rattle.nbr_metric_spec.specs.declared.Place.{Place}
 use Rattle.nbr_metric_spec.specs.Metric.{offer}
 use Rattle.nbr_table_spec.specs.declared.Offer.{Offer}
-use Rattle.nbr_table_spec.specs.declared.Parent.{Parent}
 use Rattle.nbr_table_spec.specs.declared.Settlement.{Settlement}
-use Rattle.nbr_table_spec.specs.declared.Sought.{Sought}
 use Rattle.nbr_table_spec.specs.declared.Survey.{Survey}
-use Rattle.nbr_table_spec.specs.Places.{best, named}
+use Rattle.nbr_table_spec.specs.Places.{best}
 use Rattle.nbr_table_spec.specs.Calls.{chosen, held_place}
 
 -- what a place offers
@@ -26,14 +24,10 @@ unfoldable pub lowest : Offer → List Place → Offer
 lowest kept [] = kept
 lowest kept (place ∷ places) = lowest (lower kept (offer_of place)) places
 
--- the held parent once one place more was looked at: the first place in use by it
-unfoldable pub sought : ℕ → Sought → Place → Sought
-sought id found place = if_on (found.missing && named id place) (record { missing = false; place = place }) found
-
--- what one walk over the places finds
-abbrev pub surveyed : List Place → Parent → Survey
+-- what an evaluation looks for in the places
+abbrev pub surveyed : List Place → Option ℕ → Survey
 surveyed places parent = record { best = offer_of (best places); held = held_place parent places }
 
 -- the choice, with the place of the parent that was held
-abbrev pub settlement : List Place → Parent → Settlement
+abbrev pub settlement : List Place → Option ℕ → Settlement
 settlement places parent = record { choice = chosen parent (held_place parent places) (best places); held = held_place parent places }

@@ -19,65 +19,44 @@ pub const MOST_REPORTED: u32 = 4;
 // A parent is changed for one whose path cost is lower by more than this.
 pub const HYSTERESIS: u32 = 640;
 
-// The held parent's identifier, or none.
-#[derive(Clone, Copy)]
-pub enum Parent {
-    None,
-    Held(u64),
-}
-
-// 32 places, and the held parent beside them.
+// 32 places, and beside them the held parent's identifier, where one is held.
 #[derive(Clone, Copy)]
 pub struct Table {
     pub places: [Place; 32],
-    pub parent: Parent,
+    pub parent: Option<u64>,
 }
 
-// What a call gives back: its number, and the table, which is the one it got where the number is not 0.
+// What a call stores, found out before the table changes: a place, and by number the one that it replaces (specs/Stores.antt).
 #[derive(Clone, Copy)]
-pub struct Answer {
-    pub number: u8,
-    pub table: Table,
-}
-
-// What a call finds out before it changes the places: its number, the place that it stores, and the number of that place, 32 for
-// none (specs/Stores.antt).
-#[derive(Clone, Copy)]
-pub struct Change {
-    pub number: u8,
+pub struct Store {
     pub at: usize,
     pub place: Place,
 }
 
-// Where a neighbour stands, and the lowest-numbered free place, by number; 32 where there is none.
+// Where a neighbour stands, and the lowest-numbered free place, by number.
 #[derive(Clone, Copy)]
 pub struct Found {
-    pub at: usize,
-    pub unused: usize,
+    pub at: Option<usize>,
+    pub unused: Option<usize>,
 }
 
-// What a neighbour offers a node as its own rank, and its identifier (specs/Offers.antt).
-#[derive(Clone, Copy)]
+// What a neighbour offers a node as its own rank, and its identifier: the lower is the better, by cost, then by identifier
+// (specs/Offers.antt).
+#[derive(Clone, Copy, PartialEq, Eq, PartialOrd, Ord)]
 pub struct Offer {
     pub cost: u32,
     pub id: u64,
 }
 
-// What an evaluation settles: the parent that is held from now on, and the own rank, 65535 where there is no parent.
+// What an evaluation settles: the parent that is held from now on, and the own rank, 65535 where there is no parent (RPL's infinite
+// rank, which `chosen` and C's struct have too).
 #[derive(Clone, Copy)]
 pub struct Choice {
-    pub parent: Parent,
+    pub parent: Option<u64>,
     pub rank: u16,
 }
 
-// The held parent on the way through the places: whether it is still looked for, and its place, blank until it is found.
-#[derive(Clone, Copy)]
-pub struct Sought {
-    pub missing: bool,
-    pub place: Place,
-}
-
-// What one walk over the places finds: the lowest offer, and the place of the held parent, the blank one for none.
+// What an evaluation looks for in the places: the lowest offer, and the place of the held parent, the blank one for none.
 #[derive(Clone, Copy)]
 pub struct Survey {
     pub best: Offer,
@@ -91,10 +70,9 @@ pub struct Settlement {
     pub held: Place,
 }
 
-// What an evaluation gives back: also the own rank, 65535 where there is no parent and where it is refused.
+// What an evaluation gives back: the table, and the own rank, 65535 where there is no parent.
 #[derive(Clone, Copy)]
 pub struct Evaluation {
-    pub number: u8,
     pub table: Table,
     pub rank: u16,
 }
@@ -105,6 +83,6 @@ pub fn empty() -> Table
 {
     Table {
         places: [nbr_metric_spec::blank(); 32],
-        parent: Parent::None,
+        parent: None,
     }
 }

@@ -1,6 +1,6 @@
 -- The worked values, as a single list under a single claim: each of them holds (docs/RULES.md, Worked values). They speak of the
 -- definitions that the contracts cite. Assumes nothing.
-use Rattle.std.specs.Prelude.{ℕ, ◌-◌, ◌^◌, ◌≡◌, Bool, true, false, cond, List, [], ◌∷◌, get_or, replicate}
+use Rattle.std.specs.Prelude.{ℕ, ◌-◌, ◌^◌, ◌≡◌, Bool, true, false, cond, List, [], ◌∷◌, get_or, replicate, Some, None}
 use Rattle.refusal.specs.Refusal.{done, out_of_limits}
 use Rattle.slot_spec.specs.Hopping.{channel_of}
 use Rattle.nbr_metric_spec.specs.Metric.{blank, increment, eligible}
@@ -8,7 +8,6 @@ use Rattle.nbr_metric_spec.specs.JoinMetric.{join_metric}
 use Rattle.nbr_metric_spec.specs.declared.Place.{Place}
 use Rattle.nbr_table_spec.specs.Calls.{evaluated, id_of, mark_of, reported}
 use Rattle.nbr_table_spec.specs.declared.Table.{Table}
-use Rattle.nbr_table_spec.specs.declared.Parent.TheVariants.{None, Held}
 
 -- a neighbour in use, with rank, attempts and acknowledged ones
 abbrev pub neighbour : ℕ → ℕ → ℕ → ℕ → Place
@@ -16,7 +15,7 @@ neighbour id rank attempts acked = record { id = id; rank = rank; attempts = att
 
 -- a table that holds neighbour 1 at a path cost, where neighbour 2 has another; one attempt, acknowledged, adds 256
 abbrev pub between : ℕ → ℕ → Table
-between held_at otherAt = record { places = neighbour 1 (held_at - 256) 1 1 ∷ neighbour 2 (otherAt - 256) 1 1 ∷ replicate 30 blank; parent = Held 1 }
+between held_at otherAt = record { places = neighbour 1 (held_at - 256) 1 1 ∷ neighbour 2 (otherAt - 256) 1 1 ∷ replicate 30 blank; parent = Some 1 }
 
 -- a table with one neighbour, in its first place, and no parent
 abbrev pub one_neighbour : Place → Table

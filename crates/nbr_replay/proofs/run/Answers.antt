@@ -1,28 +1,21 @@
--- `nbr_replay::run` meets its contract. The invariant: table and counts are what the rows passed come to. Assumes nothing.
-use Rattle.nbr_replay_spec.proofs.ReplayLaws.{ran_kept, ran_room, ran_sound, ran_stored, runWays}
+-- `nbr_replay::run` meets its contract. Assumes nothing.
+use Rattle.nbr_replay_spec.proofs.ReplayLaws.{ran_end, ran_long, ran_on, ran_room, ran_sound, ran_start}
 use borrow.Author.Rules.{rules}
 use Rattle.nbr_replay.proofs.run.Goals as goal
 
-pub nothing-counts-requires : goal.nothing-counts-requires
-nothing-counts-requires c = search (rules, runWays)
-
 pub loop-i-init : goal.loop-i-init
-loop-i-init c = search (rules, runWays)
-
-pub step-step-requires : goal.step-step-requires
-step-step-requires c = search (rules, ran_sound)
-
-pub counted-counts-requires : goal.counted-counts-requires
-counted-counts-requires c = (search (rules, ran_room), search rules, search rules)
-
-pub loop-i-preserved-then-at-lt-PLACES : goal.loop-i-preserved-then-at-lt-PLACES
-loop-i-preserved-then-at-lt-PLACES c = (search rules, search (rules, ran_stored))
+loop-i-init c = search (rules, ran_start)
 
 pub loop-i-preserved : goal.loop-i-preserved
-loop-i-preserved c = (search rules, search (rules, ran_kept))
+loop-i-preserved c =
+    ran_on _ _ _ _ _ c.loop-i.invariant _ _ _ _ c.call.ensures c.step-visit.ensures.leaves c.step-visit.ensures.shows c.counted-counts.ensures.value c.counted-counts.ensures.bound
+    c.step-visit.ensures.long
 
-pub applies-requires : goal.applies-requires
-applies-requires c = search (rules, runWays)
+pub step-visit-requires : goal.step-visit-requires
+step-visit-requires c = search (rules, ran_sound, ran_long)
+
+pub counted-counts-requires : goal.counted-counts-requires
+counted-counts-requires c = search (rules, ran_room)
 
 pub returns : goal.returns
-returns c = search (rules, runWays)
+returns c = search (rules, ran_end)

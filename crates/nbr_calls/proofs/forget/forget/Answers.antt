@@ -1,7 +1,16 @@
 -- `nbr_calls::forget::forget` meets its contract. Assumes nothing.
-use Rattle.nbr_table_spec.proofs.StoreLaws.{forgetWays}
+use Rattle.nbr_table_spec.proofs.StoreLaws.{forget_refused, forgetWays}
+use Rattle.std.proofs.lemmas.Result.{err_from_is_err_and}
 use borrow.Author.Rules.{rules}
 use Rattle.nbr_calls.proofs.forget.forget.Goals as goal
+
+pub returns-in_err-after : goal.returns-in_err-after
+returns-in_err-after c = let p = err_from_is_err_and c.from_residual.result c.from_residual.ensures.1 in rw (p.1, p.2) (search (rules, forgetWays))
+
+pub returns-in_err-at : goal.returns-in_err-at
+returns-in_err-at c =
+    let p = err_from_is_err_and c.from_residual-in_err-at.result c.from_residual-in_err-at.ensures.1 in
+    rw (p.1, p.2) (forget_refused c.args.table c.in_ok-after.after c.in_ok-after.ensures.ok (search (rules, forgetWays)) c.args.id _ c.in_err-at.ensures.change)
 
 pub returns : goal.returns
 returns c = search (rules, forgetWays)

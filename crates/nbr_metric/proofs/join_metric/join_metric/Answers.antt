@@ -6,8 +6,5 @@ use Rattle.nbr_metric.proofs.join_metric.join_metric.Goals as goal
 pub returns-then-rank-lt-MINIMUM_RANK : goal.returns-then-rank-lt-MINIMUM_RANK
 returns-then-rank-lt-MINIMUM_RANK c = search (rules, joinWays)
 
-pub returns-then-rank-gt-HIGHEST_RANK : goal.returns-then-rank-gt-HIGHEST_RANK
-returns-then-rank-gt-HIGHEST_RANK c = search (rules, joinWays)
-
 pub returns : goal.returns
 returns c = search (rules, joinWays)

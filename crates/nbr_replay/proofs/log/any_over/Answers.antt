@@ -1,16 +1,12 @@
--- `nbr_replay::log::any_over` meets its contract. The invariant: some number of what is left is over m exactly when one of the whole is. Assumes nothing.
-use Rattle.nbr_replay_spec.proofs.LogLaws.{logWays}
-use borrow.Author.Rules.{rules}
+-- `nbr_replay::log::any_over` meets its contract. Assumes nothing.
+use Rattle.std.proofs.Common.{rules, tests, ◌∙◌}
+use Rattle.std.proofs.lemmas.Iterator.{YieldsList-from_slice}
+use Rattle.std.proofs.lemmas.Iterator.Search.{any_from_yields_List}
+use lib.Dec.{ltb}
+use Rattle.nbr_replay_spec.proofs.LogLaws.{some_over_any}
 use Rattle.nbr_replay.proofs.log.any_over.Goals as goal
 
-pub loop-i-init : goal.loop-i-init
-loop-i-init c = search (rules, logWays)
-
-pub returns-then-limit-s : goal.returns-then-limit-s
-returns-then-limit-s c = search (rules, logWays)
-
-pub loop-i-preserved : goal.loop-i-preserved
-loop-i-preserved c = search (rules, logWays)
-
 pub returns : goal.returns
-returns c = search (rules, logWays)
+returns c =
+    any_from_yields_List (ltb c.args.limit) _ _ _ c.any.ensures.ran (YieldsList-from_slice c.args.s.now cc) (λ x b q k. search (rules, tests))
+    ∙ some_over_any c.args.limit c.args.s.now

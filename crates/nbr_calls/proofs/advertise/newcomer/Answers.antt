@@ -1,7 +1,0 @@
--- `nbr_calls::advertise::newcomer` meets its contract. Assumes nothing.
-use Rattle.nbr_table_spec.proofs.StoreLaws.{advertiseWays}
-use borrow.Author.Rules.{rules}
-use Rattle.nbr_calls.proofs.advertise.newcomer.Goals as goal
-
-pub returns : goal.returns
-returns c = search (rules, advertiseWays)
