@@ -10,7 +10,7 @@ ghost use Rattle.ack_grammar_spec.specs.Claims.{FormReadAsSaid};
 ghost use Rattle.ack_round_trip_spec.specs.ReadBack.{WrittenAsSaid};
 
 use ack_read_spec::AckReading;
-use ack_record_spec::AckForm;
+use ack_record_spec::{Ack, AckForm};
 use eb_write_spec::Written;
 
 // The number of a frame and its record, which is the blank one if the frame is refused: done exactly with the record that the bytes say
@@ -33,11 +33,8 @@ pub extern "C" fn tesolvagna_ack_write(buffer: &mut [u8], ack: AckForm) -> Writt
     ensures length { NeverTooLong }
     ensures as_said { WrittenAsSaid result.number result.length buffer.new (ack_of ack) }
 {
-    if !ack_record_spec::is_ack(ack) {
-        return Written {
-            number: refusal::OUT_OF_LIMITS,
-            length: 0,
-        };
+    match Ack::try_from(ack) {
+        Ok(ack) => Written::from(ack_write::write(buffer, ack)),
+        Err(refusal) => Written::from(Err(refusal)),
     }
-    ack_write::write(buffer, ack_record_spec::ack_of(ack))
 }

@@ -15,9 +15,9 @@ pub extern "C" fn tesolvagna_beacon_read(s: &[u8]) -> FormReading
     ensures as_said { FormReadAsSaid s.now result.number result.beacon }
 {
     let found = eb_examine::examine(s);
-    if found.number != refusal::DONE {
+    if let Err(refusal) = found.verdict {
         return FormReading {
-            number: found.number,
+            number: refusal.number(),
             beacon: eb_record::blank_form(),
         };
     }

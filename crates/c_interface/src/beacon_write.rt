@@ -5,7 +5,7 @@ ghost use Rattle.eb_write_spec.specs.Form.{form_written, buffer_after_form};
 ghost use Rattle.eb_record_spec.specs.Form.{beacon_of};
 ghost use Rattle.eb_round_trip_spec.specs.ReadBack.{WrittenAsSaid};
 
-use eb_record_spec::BeaconForm;
+use eb_record_spec::{Beacon, BeaconForm};
 use eb_write_spec::Written;
 
 // Writes a record's frame at the start of a lent buffer. Refused in this order: a form that is no record's, or a record outside the limits
@@ -17,11 +17,8 @@ pub extern "C" fn tesolvagna_beacon_write(buffer: &mut [u8], beacon: BeaconForm)
     ensures numbers { FormNumbers }
     ensures as_said { WrittenAsSaid result.number result.length buffer.new (beacon_of beacon) }
 {
-    if !eb_record::is_beacon(beacon) {
-        return Written {
-            number: refusal::OUT_OF_LIMITS,
-            length: 0,
-        };
+    match Beacon::try_from(beacon) {
+        Ok(beacon) => Written::from(eb_write::write(buffer, beacon)),
+        Err(refusal) => Written::from(Err(refusal)),
     }
-    eb_write::write(buffer, eb_record::beacon_of(beacon))
 }

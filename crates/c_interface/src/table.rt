@@ -1,11 +1,17 @@
 // The neighbour table for C: a table goes in by value and comes back by value with the call's number, also where the call is refused.
+// C has no enum with values: a mark with the identifier beside it, the numbers of the answers and the four lists of a log are the C interface.
 ghost use Rattle.std.specs.Prelude.{◌≡◌, true, ◌+◌, ◌*◌, ◌≤◌};
 ghost use Rattle.nbr_replay_spec.specs.Log.{calls, log as logOf};
-ghost use Rattle.c_table_spec.specs.Table.{advertised_form, empty_form, evaluated_form, forgotten_form, replayed_form, reported_form};
+ghost use Rattle.nbr_replay.specs.Rows.{rows_of};
+ghost use Rattle.nbr_table_spec.specs.Stores.{change_of};
+ghost use Rattle.c_table_spec.specs.Table.{advertised_form, empty_form, evaluated_form, forgotten_form, outcome_told, replayed_form, reported_form, stored_form};
 ghost use Rattle.c_table_spec.specs.Claims.{form_evaluations, none_refused_in_c};
 
 use c_table_spec::{EvaluationAnswer, ReplayAnswer, TableAnswer, TableForm};
-use nbr_table_spec::Table;
+use nbr_replay::log::Log;
+use nbr_replay_spec::Outcome;
+use nbr_table_spec::{Store, Table};
+use refusal::Refusal;
 
 // A table without neighbours.
 #[unsafe(no_mangle)]
@@ -19,15 +25,21 @@ pub extern "C" fn tesolvagna_table_init() -> TableForm
     }
 }
 
+// What a call answers that found this to store, or why it is refused, and leaves this held parent.
+fn told(table: TableForm, found: Result<Store, Refusal>, left: Option<u64>) -> TableAnswer
+    ensures { result ≡ stored_form table (change_of found) left }
+{
+    c_table::stored(table, refusal::number_in(found), found.ok(), left)
+}
+
 // Sets a neighbour's rank, or adds the neighbour: 8 for a table that is refused, 11 for a new neighbour where no place is free.
 #[unsafe(no_mangle)]
 pub extern "C" fn tesolvagna_table_advertise(table: TableForm, id: u64, rank: u16) -> TableAnswer
     ensures { result ≡ advertised_form table id rank }
 {
-    let places = table.places;
-    let parent = c_table::parent_of(table.held, table.parent);
-    let change = nbr_calls::advertise::advertising(places, id, rank);
-    c_table::stored(places, table.held, table.parent, change, parent)
+    let parent = table.held_parent();
+    let found = nbr_calls::advertise::advertising(&table.places, id, rank);
+    told(table, found, parent)
 }
 
 // Counts 1 to 4 attempts to reach a neighbour: 8 for a table that is refused and for other numbers, 10 for an unknown neighbour.
@@ -40,10 +52,9 @@ pub extern "C" fn tesolvagna_table_report(
 ) -> TableAnswer
     ensures { result ≡ reported_form table id attempts acked }
 {
-    let places = table.places;
-    let parent = c_table::parent_of(table.held, table.parent);
-    let change = nbr_calls::report::reporting(places, id, attempts, acked);
-    c_table::stored(places, table.held, table.parent, change, parent)
+    let parent = table.held_parent();
+    let found = nbr_calls::report::reporting(&table.places, id, attempts, acked);
+    told(table, found, parent)
 }
 
 // Removes a neighbour: 8 for a table that is refused, 10 for an unknown neighbour.
@@ -51,22 +62,20 @@ pub extern "C" fn tesolvagna_table_report(
 pub extern "C" fn tesolvagna_table_forget(table: TableForm, id: u64) -> TableAnswer
     ensures { result ≡ forgotten_form table id }
 {
-    let places = table.places;
-    let parent = c_table::parent_of(table.held, table.parent);
-    let change = nbr_calls::forget::forgetting(places, id);
+    let parent = table.held_parent();
     let left = nbr_calls::forget::without(parent, id);
-    c_table::stored(places, table.held, table.parent, change, left)
+    let found = nbr_calls::forget::forgetting(&table.places, id);
+    told(table, found, left)
 }
 
 // Sets the held parent, and says the own rank, the parent and whether it changed: 8 for a table that is refused.
 #[unsafe(no_mangle)]
-pub extern "C" fn tesolvagna_table_evaluate(table: TableForm) -> EvaluationAnswer
+pub extern "C" fn tesolvagna_table_evaluate(mut table: TableForm) -> EvaluationAnswer
     ensures { result ≡ evaluated_form table }
 {
-    let places = table.places;
-    if c_table::is_refused(places, table.held, table.parent) {
+    if c_table::is_refused(&table) {
         return EvaluationAnswer {
-            number: refusal::OUT_OF_LIMITS,
+            number: Refusal::OutOfLimits.number(),
             changed: false,
             rank: nbr_metric_spec::INFINITE_RANK,
             held: table.held,
@@ -74,23 +83,24 @@ pub extern "C" fn tesolvagna_table_evaluate(table: TableForm) -> EvaluationAnswe
             table,
         };
     }
-    let before = c_table::parent_of(table.held, table.parent);
-    let settlement = nbr_parent::settle(places, before);
-    let choice = settlement.choice;
-    let chosen = choice.parent;
-    let held = nbr_parent::held_parent::mark_of(chosen);
-    let parent = nbr_parent::held_parent::id_of(chosen);
-    let mut changed = table;
-    changed.held = held;
-    changed.parent = parent;
+    let before = table.held_parent();
+    let choice = nbr_parent::settle(&table.places, before).choice;
+    table.hold(choice.parent);
     EvaluationAnswer {
         number: refusal::DONE,
-        changed: !nbr_parent::held_parent::same(before, chosen),
+        changed: before != choice.parent,
         rank: choice.rank,
-        held,
-        parent,
-        table: changed,
+        held: table.held,
+        parent: table.parent,
+        table,
     }
+}
+
+// What a log of calls comes to on a table; a C form that is no table's is refused.
+fn replayed(form: &TableForm, log: &Log<'_>) -> Result<Outcome, Refusal>
+    ensures { outcome_told form.now result ≡ replayed_form form.now (rows_of log.now) }
+{
+    nbr_replay::replay(Table::try_from(form)?, log)
 }
 
 // Runs a log of calls on a table, one row for each call: 8 for a table or a log that is refused. On what it counts, parents do not
@@ -108,36 +118,32 @@ pub extern "C" fn tesolvagna_table_replay(
     ensures few { result.applies ≡ true → result.rises ≡ 0 → result.changes ≤ 101 }
     ensures accepted { result.number ≡ 0 → none_refused_in_c (form_evaluations table (calls (logOf kinds.now ids.now values.now flags.now))) ≡ true }
 {
-    if c_table::is_parent(table.held, table.parent) {
-        let places = table.places;
-        let parent = c_table::parent_of(table.held, table.parent);
-        let outcome = nbr_replay::replay(Table { places, parent }, kinds, ids, values, flags);
-        let ended = outcome.table;
-        let left = ended.parent;
-        let after = ended.places;
-        return ReplayAnswer {
-            number: outcome.number,
-            applies: outcome.applies,
-            evaluations: outcome.evaluations,
-            changes: outcome.changes,
-            rises: outcome.rises,
-            first: outcome.first,
-            last: outcome.last,
-            table: TableForm {
-                places: after,
-                held: nbr_parent::held_parent::mark_of(left),
-                parent: nbr_parent::held_parent::id_of(left),
-            },
-        };
-    }
-    ReplayAnswer {
-        number: refusal::OUT_OF_LIMITS,
-        applies: false,
-        evaluations: 0,
-        changes: 0,
-        rises: 0,
-        first: 0,
-        last: 0,
-        table,
+    let log = Log {
+        kinds,
+        ids,
+        values,
+        flags,
+    };
+    match replayed(&table, &log) {
+        Ok(ended) => ReplayAnswer {
+            number: refusal::DONE,
+            applies: ended.applies,
+            evaluations: ended.evaluations,
+            changes: ended.changes,
+            rises: ended.rises,
+            first: ended.first,
+            last: ended.last,
+            table: TableForm::from(&ended.table),
+        },
+        Err(refusal) => ReplayAnswer {
+            number: refusal.number(),
+            applies: false,
+            evaluations: 0,
+            changes: 0,
+            rises: 0,
+            first: 0,
+            last: 0,
+            table,
+        },
     }
 }

@@ -1,102 +1,49 @@
-// Between the C form of a table and the table: the held parent, whether a C form is refused, and a change stored in it.
-#![tactic(auto)]
+// What a call does to the C form of a table: whether every call refuses it, and a change stored in it.
+#![tactic(auto, using(c_table_spec::proofs::CallForms::formWays))]
 
-ghost use Rattle.std.specs.Prelude.{◌≡◌, ◌<◌};
-ghost use Rattle.c_table_spec.specs.Table.{is_parent, parent_of, refused, stored_form, with_stored};
+ghost use Rattle.std.specs.Prelude.{◌≡◌, set};
+ghost use Rattle.c_table_spec.specs.Table.{at_of, change_with, place_of, refused, stored_form};
 
-use c_table_spec::{Stored, TableAnswer, TableForm};
+use c_table_spec::{TableAnswer, TableForm};
 use nbr_metric_spec::Place;
-use nbr_table_spec::{Change, Parent};
-
-// The parent that a mark and an identifier are.
-pub fn parent_of(held: bool, id: u64) -> Parent
-    ensures { result ≡ parent_of held id }
-{
-    if held {
-        return Parent::Held(id);
-    }
-    Parent::None
-}
-
-// Whether a mark and an identifier are a held parent or none: no identifier where none is held.
-pub fn is_parent(held: bool, id: u64) -> bool
-    ensures { result ≡ is_parent held id }
-{
-    if held {
-        return true;
-    }
-    id == 0
-}
+use nbr_table_spec::{PLACES, Store};
+use refusal::Refusal;
 
 // Whether every call refuses a C form: it is no table's, or its table breaks a rule.
-pub fn is_refused(places: [Place; 32], held: bool, parent: u64) -> bool
-    ensures { result ≡ refused (record { places = places; held = held; parent = parent }) }
+pub fn is_refused(form: &TableForm) -> bool
+    ensures { result ≡ refused form.now }
 {
-    if is_parent(held, parent) {
-        return nbr_table::is_broken(places, parent_of(held, parent));
-    }
-    true
+    !form.is_table() || nbr_table::is_broken(&form.places, form.held_parent())
 }
 
-// What a call comes to that finds this change and leaves this held parent; where nothing is to be stored, the first place is stored as it
-// is. A C form that is refused stays as it is.
-fn outcome(places: [Place; 32], held: bool, parent: u64, change: Change, left: Parent) -> Stored
-    ensures value { with_stored places result ≡ stored_form (record { places = places; held = held; parent = parent }) change left }
-    ensures bound { result.at < 32 }
+// Puts a place where it belongs; nothing, where there is none or it belongs behind the last.
+fn put(places: &mut [Place; 32], found: Option<Store>)
+    ensures { places.new ≡ set places.old (at_of found) (place_of found) }
 {
-    let first = places[0];
-    if is_refused(places, held, parent) {
-        return Stored {
-            number: refusal::OUT_OF_LIMITS,
-            at: 0,
-            place: first,
-            held,
-            parent,
-        };
-    }
-    let held = nbr_parent::held_parent::mark_of(left);
-    let parent = nbr_parent::held_parent::id_of(left);
-    if change.at < nbr_table_spec::PLACES {
-        let place = change.place;
-        return Stored {
-            number: change.number,
-            at: change.at,
-            place,
-            held,
-            parent,
-        };
-    }
-    Stored {
-        number: change.number,
-        at: 0,
-        place: first,
-        held,
-        parent,
+    if let Some(Store { at, place }) = found
+        && at < PLACES
+    {
+        places[at] = place;
     }
 }
 
-// What a call answers that stores a change and leaves this held parent. A place is stored on every way: the answer is then made in one
-// place, and its table is copied once.
+// What a call answers that has this number, stores this and leaves this held parent. A C form that is refused stays as it is. Any number may
+// come with any place, so they are two parameters and no Result.
 pub fn stored(
-    places: [Place; 32],
-    held: bool,
-    parent: u64,
-    change: Change,
-    left: Parent,
+    mut table: TableForm,
+    number: u8,
+    found: Option<Store>,
+    left: Option<u64>,
 ) -> TableAnswer
-    ensures { result ≡ stored_form (record { places = places; held = held; parent = parent }) change left }
+    ensures { result ≡ stored_form table (change_with number found) left }
 {
-    let outcome = outcome(places, held, parent, change, left);
-    let at = outcome.at;
-    let place = outcome.place;
-    let mut after = places;
-    after[at] = place;
-    TableAnswer {
-        number: outcome.number,
-        table: TableForm {
-            held: outcome.held,
-            parent: outcome.parent,
-            places: after,
-        },
+    if is_refused(&table) {
+        return TableAnswer {
+            number: Refusal::OutOfLimits.number(),
+            table,
+        };
     }
+    put(&mut table.places, found);
+    table.hold(left);
+    TableAnswer { number, table }
 }

@@ -1,61 +1,48 @@
 -- The laws of the exported calls: each way out, as the code meets it (the rulesets at the end). Assumes nothing.
+use Rattle.std.proofs.Common.{Option, Some, None, Result, Ok, Err}
+use Rattle.std.specs.Result.{result_ok}
 use Prim.Native.Nat.{ℕ, ◌*◌, ◌+◌, ◌≤◌}
 use native.Mathlib.Omega.{arith}
 use mathlib.Core.Path.{◌≡◌, refl, sym, ap, subst, ◌∙◌}
 use mathlib.Core.Bool.{Bool, true, false, not}
 use mathlib.Core.List.{List}
 use mathlib.Core.Logic.{◌⊎◌, inl, inr, ⊎_elim}
-use lib.ListN.{get_or, length, replicate, set}
-use lib.Seq.{set-get_or, set_out}
+use Rattle.std.specs.Option.{option_eq}
 use lib.Dec.{eqb}
+use lib.ListN.{length, replicate, set}
+use lib.Seq.{set_out}
 use Rattle.octets_spec.specs.Choice.{if_on}
-use Rattle.octets_spec.proofs.ChoiceLaws.{by_test, choices, if_off_lem, if_on_lem}
+use Rattle.octets_spec.proofs.ChoiceLaws.{by_test, if_off_lem, if_on_lem}
 use Rattle.octets_spec.proofs.CountedLaws.{length_mapped}
+use Rattle.refusal.specs.declared.Refusal.{Refusal}
+use Rattle.refusal.specs.declared.Refusal.TheVariants.{OutOfLimits}
+use Rattle.refusal.specs.Refusal.{number_in, number_of}
 use Rattle.nbr_metric_spec.specs.declared.Place.{Place}
 use Rattle.nbr_metric_spec.specs.Metric.{blank}
 use Rattle.nbr_table_spec.specs.Places.{best}
-use Rattle.nbr_table_spec.specs.declared.Answer.{Answer}
-use Rattle.nbr_table_spec.specs.declared.Change.{Change}
+use Rattle.nbr_table_spec.specs.Calls.{Answer, answer, broken, chosen, evaluated, held_place, id_of, mark_of, same_parent, with_parent, without}
+use Rattle.nbr_table_spec.specs.Stores.{Change, change_of, advertising, forgetting, reporting, stored}
 use Rattle.nbr_table_spec.specs.declared.Choice.{Choice}
-use Rattle.nbr_table_spec.specs.declared.Parent.{Parent}
-use Rattle.nbr_table_spec.specs.declared.Parent.TheVariants.{None, Held}
+use Rattle.nbr_table_spec.specs.declared.Store.{Store}
+use Rattle.nbr_table_spec.specs.declared.Table.{Table}
 use Rattle.nbr_table_spec.specs.declared.Settlement.{Settlement}
-use Rattle.nbr_table_spec.specs.Calls.{answer, broken, chosen, evaluated, held_place, id_of, mark_of, same_parent, with_parent, without}
 use Rattle.nbr_table_spec.specs.Offers.{settlement}
-use Rattle.nbr_table_spec.specs.Stores.{advertising, forgetting, reporting, stored}
 use Rattle.nbr_table_spec.proofs.PlaceLaws.{clash}
 use Rattle.nbr_table_spec.proofs.CallLaws.{evaluated_broken, evaluated_done}
-use Rattle.nbr_table_spec.proofs.StoreLaws.{advertise_done, forget_done, report_done, store_place, store_refused}
+use Rattle.nbr_table_spec.proofs.StoreLaws.{advertised_stored, forgotten_stored, reported_stored, store_place, store_refused}
 use Rattle.nbr_stability_spec.proofs.Bound.{same_self}
-use Rattle.nbr_replay_spec.specs.declared.Outcome.{Outcome}
+use Rattle.nbr_replay_spec.specs.declared.Outcome.{Outcome as Ended}
 use Rattle.nbr_replay_spec.specs.Log.{Log, calls}
-use Rattle.nbr_replay_spec.specs.Replay.{replayed}
+use Rattle.nbr_replay_spec.specs.Replay.{Outcome, outcome_of, replayed}
 use Rattle.nbr_replay_spec.proofs.ReplayLaws.{replay_bound, replay_few, replay_is}
 use Rattle.c_table_spec.specs.declared.TableForm.{TableForm}
 use Rattle.c_table_spec.specs.declared.TableAnswer.{TableAnswer}
 use Rattle.c_table_spec.specs.declared.EvaluationAnswer.{EvaluationAnswer}
 use Rattle.c_table_spec.specs.declared.ReplayAnswer.{ReplayAnswer}
-use Rattle.c_table_spec.specs.Table.{advertised_form, answer_form, empty_form, evaluated_form, evaluation_form, evaluation_refusal, forgotten_form, form_of, is_parent, is_table, outcome_form, parent_of, refusal, refused, replay_refusal, replayed_form, reported_form, stored_form, table_of, with_stored}
+use Rattle.c_table_spec.specs.Table.{advertised_form, answer_form, change_with, empty_form, evaluated_form, evaluation_form, evaluation_refusal, forgotten_form, form_of, is_table, outcome_form, outcome_told, parent_of, refusal, refused, replay_refusal, replayed_form, reported_form, stored_form, table_of, tried}
 use Rattle.c_table_spec.specs.Claims.{form_evaluations, none_refused_in_c}
 use Rattle.c_table_spec.proofs.FormLaws.{tables_are_forms}
 use Rattle.c_table_spec.proofs.Agree.{accepted, none_refused_in_c_lem}
-
--- ---- the held parent
-pub parent_held : (held : Bool) (id : ℕ) → held ≡ true → Held id ≡ parent_of held id
-unfolding parent_of
-parent_held held id e = rw e
-
-pub parent_none : (held : Bool) (id : ℕ) → held ≡ false → None ≡ parent_of held id
-unfolding parent_of
-parent_none held id e = rw e
-
-pub is_held : (held : Bool) (id : ℕ) → held ≡ true → true ≡ is_parent held id
-unfolding is_parent
-is_held held id e = rw e
-
-pub is_none : (held : Bool) (id : ℕ) → held ≡ false → eqb id 0 ≡ is_parent held id
-unfolding is_parent
-is_none held id e = rw e
 
 -- ---- which C forms are refused
 module _ (form : TableForm) where
@@ -64,14 +51,22 @@ module _ (form : TableForm) where
     unfolding refused
     refused_stray u = rw (← e, u)
 
-    pub refused_broken : (y : Bool) (q : Parent) → x ≡ true → q ≡ parent_of form.held form.parent → y ≡ broken (record { places = form.places; parent = q }) → y ≡ refused form
+    pub refused_broken : (y : Bool) (q : Option ℕ) → x ≡ true → q ≡ parent_of form.held form.parent → y ≡ broken (record { places = form.places; parent = q }) → y ≡ refused form
     unfolding refused
-    refused_broken y q u f g = rw (← e, u) (g ∙ ap (λ (p : Parent). broken (record { places = form.places; parent = p })) f)
+    refused_broken y q u f g = rw (← e, u) (g ∙ ap (λ (p : Option ℕ). broken (record { places = form.places; parent = p })) f)
 
 -- the table without neighbours
 pub empty_form_lem : (b : Place) → b ≡ blank → ◌≡◌ {A = TableForm} (record { places = replicate 32 b; held = false; parent = 0 }) empty_form
 unfolding mark_of id_of
 empty_form_lem b e = ap (λ (z : Place). record { places = replicate 32 z; held = false; parent = 0 }) e
+
+-- two held parents are the same by std's equality
+same_is : (p q : Option ℕ) → option_eq eqb p q ≡ same_parent p q
+unfolding same_parent
+same_is None None = refl
+same_is None (Some other) = refl
+same_is (Some id) None = refl
+same_is (Some id) (Some other) = refl
 
 -- ---- the calls
 module _ (form : TableForm) (x : Bool) (e : x ≡ refused form) where
@@ -107,75 +102,91 @@ module _ (form : TableForm) (x : Bool) (e : x ≡ refused form) where
     fine : broken (table_of form) ≡ false
     fine = (accepted form (sym e ∙ u)).1
 
-    pub evaluate_done : (q : Parent) (w : Settlement) (same held : Bool) (left : ℕ) → q ≡ parent_of form.held form.parent → w ≡ settlement form.places q → same ≡ same_parent q w.choice.parent → held ≡ mark_of w.choice.parent → left ≡ id_of w.choice.parent
-        → ◌≡◌ {A = EvaluationAnswer} (record { number = 0; changed = not same; rank = w.choice.rank; held = held; parent = left; table = record { places = form.places; held = held; parent = left } }) (evaluated_form form)
+    pub evaluate_done : (q : Option ℕ) (w : Settlement) (changed : Bool) (after : TableForm) → q ≡ parent_of form.held form.parent → w ≡ settlement form.places q → changed ≡ not (option_eq eqb q w.choice.parent) → after ≡ record { places = form.places; held = mark_of w.choice.parent; parent = id_of w.choice.parent }
+        → ◌≡◌ {A = EvaluationAnswer} (record { number = 0; changed = changed; rank = w.choice.rank; held = after.held; parent = after.parent; table = after }) (evaluated_form form)
     unfolding evaluated_form
-    evaluate_done q w same held left g f₀ s m n =
+    evaluate_done q w changed after g f₀ s m =
         let c : Choice = w.choice in
         let f : c ≡ chosen q (held_place q form.places) (best form.places) = ap (λ (z : Settlement). z.choice) f₀ in
-        let f₂ : c ≡ chosen (table_of form).parent (held_place (table_of form).parent form.places) (best form.places) = f ∙ ap (λ (z : Parent). chosen z (held_place z form.places) (best form.places)) g in
-        let s₂ : same ≡ same_parent (table_of form).parent c.parent = s ∙ ap (λ (z : Parent). same_parent z c.parent) g in
+        let f₂ : c ≡ chosen (table_of form).parent (held_place (table_of form).parent form.places) (best form.places) = f ∙ ap (λ (z : Option ℕ). chosen z (held_place z form.places) (best form.places)) g in
+        let s₂ : changed ≡ not (same_parent (table_of form).parent c.parent) = s ∙ ap not (same_is q c.parent) ∙ ap (λ (z : Option ℕ). not (same_parent z c.parent)) g in
         let y = evaluated_done (table_of form) (broken (table_of form)) refl c (with_parent (table_of form) c.parent) fine f₂ refl in
         if_on_lem (evaluation_form (table_of form) (evaluated (table_of form))) (evaluation_refusal form) (is_table form) is
-        ((λ i. record { number = 0; changed = not (s₂ i); rank = c.rank; held = m i; parent = n i; table = record { places = form.places; held = m i; parent = n i } }) ∙ ap (evaluation_form (table_of form)) y)
+        ((λ i. record { number = 0; changed = s₂ i; rank = c.rank; held = (m i).held; parent = (m i).parent; table = m i }) ∙ ap (evaluation_form (table_of form)) y)
 
 -- ---- a change is stored
-module _ (ps : List Place) (held : Bool) (parent : ℕ) (c : Change) (q : Parent) (x : Bool) (e : x ≡ refused (record { places = ps; held = held; parent = parent })) where
-  abbrev form : TableForm
-  form = record { places = ps; held = held; parent = parent }
-
-  pub outcome_refused : (p : Place) → x ≡ true → p ≡ get_or ps 0 blank → with_stored ps (record { number = 8; at = 0; place = p; held = held; parent = parent }) ≡ stored_form form c q
+module _ (form : TableForm) (c : Change) (q : Option ℕ) (x : Bool) (e : x ≡ refused form) where
+  pub store_none : x ≡ true → refusal form ≡ stored_form form c q
   unfolding stored_form
-  outcome_refused p u f =
-      ap (λ (l : List Place). refusal (record { places = l; held = held; parent = parent })) (ap (set ps 0) f ∙ set-get_or ps 0 blank)
-      ∙ given_back form x e u (stored (table_of form) c q) (λ b. sym (store_refused (table_of form) c q true (sym b) refl))
+  store_none u = given_back form x e u (stored (table_of form) c q) (λ b. sym (store_refused (table_of form) c q true (sym b) refl))
 
-  module _ (mark : Bool) (left : ℕ) (u : x ≡ false) (m : mark ≡ mark_of q) (n : left ≡ id_of q) where
-    pub outcome_stored : with_stored ps (record { number = c.number; at = c.at; place = c.place; held = mark; parent = left }) ≡ stored_form form c q
-    unfolding stored_form
-    outcome_stored =
-        let a = accepted form (sym e ∙ u) in
-        if_on_lem (answer_form (stored (table_of form) c q)) (refusal form) (is_table form) a.0
-        ((λ i. record { number = c.number; table = record { places = set ps c.at c.place; held = m i; parent = n i } }) ∙ ap answer_form (store_place (table_of form) c q (broken (table_of form)) refl a.1))
+  pub store_put : x ≡ false → (after : TableForm) → after.places ≡ set form.places c.at c.place → after.held ≡ mark_of q → after.parent ≡ id_of q → record { number = c.number; table = after } ≡ stored_form form c q
+  unfolding stored_form
+  store_put u after p h i =
+      let a = accepted form (sym e ∙ u) in
+      (λ j. record { number = c.number; table = record { places = p j; held = h j; parent = i j } })
+      ∙ if_on_lem (answer_form (stored (table_of form) c q)) (refusal form) (is_table form) a.0
+      (ap answer_form (store_place (table_of form) c q (broken (table_of form)) refl a.1))
 
-    pub outcome_nothing : (p : Place) → length ps ≡ 32 → 32 ≤ c.at → p ≡ get_or ps 0 blank → with_stored ps (record { number = c.number; at = 0; place = p; held = mark; parent = left }) ≡ stored_form form c q
-    outcome_nothing p l h f =
-        ap (λ (z : List Place). record { number = c.number; table = record { places = z; held = mark; parent = left } })
-        (ap (set ps 0) f ∙ set-get_or ps 0 blank ∙ sym (set_out ps c.at c.place (omega arith))) ∙ outcome_stored
+-- the change of a call's number and of what it stores is the call's
+pub change_is : (found : Result Store Refusal) (number : ℕ) (o : Option Store) → number ≡ number_in found → o ≡ result_ok found → change_with number o ≡ change_of found
+change_is (Ok store) number o n m = rw (n, m)
+change_is (Err r) number o n m = rw (n, m)
 
 module _ (form : TableForm) (id : ℕ) (c : Change) (l : length form.places ≡ 32) (r : TableAnswer) where
-  by_answer : (q : Parent) (a : Answer) → r ≡ stored_form form c q → stored (table_of form) c q ≡ a → r ≡ if_on (is_table form) (answer_form a) (refusal form)
+  by_answer : (q : Option ℕ) (a : Answer) → r ≡ stored_form form c q → stored (table_of form) c q ≡ a → r ≡ if_on (is_table form) (answer_form a) (refusal form)
   unfolding stored_form
   by_answer q a s e = s ∙ ap (λ (z : Answer). if_on (is_table form) (answer_form z) (refusal form)) e
 
-  module _ (q : Parent) (g : q ≡ parent_of form.held form.parent) where
+  module _ (q : Option ℕ) (g : q ≡ parent_of form.held form.parent) where
     pub advertise_form : (rank : ℕ) → c ≡ advertising form.places id rank → r ≡ stored_form form c q → r ≡ advertised_form form id rank
     unfolding advertised_form
-    advertise_form rank e s = by_answer q _ s (advertise_done (table_of form) id c l _ rank e (ap (stored (table_of form) c) g))
+    advertise_form rank e s = by_answer q _ s (ap (stored (table_of form) c) g ∙ ap (λ (z : Change). stored (table_of form) z (table_of form).parent) e ∙ advertised_stored (table_of form) l id rank)
 
     pub report_form : (attempts : ℕ) (acked : Bool) → c ≡ reporting form.places id attempts acked → r ≡ stored_form form c q → r ≡ reported_form form id attempts acked
     unfolding reported_form
-    report_form attempts acked e s = by_answer q _ s (report_done (table_of form) id c l _ attempts acked e (ap (stored (table_of form) c) g))
+    report_form attempts acked e s = by_answer q _ s (ap (stored (table_of form) c) g ∙ ap (λ (z : Change). stored (table_of form) z (table_of form).parent) e ∙ reported_stored (table_of form) l id attempts acked)
 
-    pub forget_form : (p : Parent) → c ≡ forgetting form.places id → p ≡ without id q → r ≡ stored_form form c p → r ≡ forgotten_form form id
+    pub forget_form : (p : Option ℕ) → c ≡ forgetting form.places id → p ≡ without id q → r ≡ stored_form form c p → r ≡ forgotten_form form id
     unfolding forgotten_form
-    forget_form p e h s = by_answer p _ s (forget_done (table_of form) id c l _ p e (h ∙ ap (without id) g) refl)
+    forget_form p e h s = by_answer p _ s (ap (stored (table_of form) c) (h ∙ ap (without id) g) ∙ ap (λ (z : Change). stored (table_of form) z (without id (table_of form).parent)) e ∙ forgotten_stored (table_of form) l id)
 
 -- ---- the replay
 module _ (form : TableForm) (l : Log) where
-  module _ (x : Bool) (e : x ≡ is_table form) where
-    pub replay_stray : x ≡ false → replay_refusal form ≡ replayed_form form l
-    unfolding replayed_form
-    replay_stray u = let t : is_table form ≡ false = sym e ∙ u in search choices
+  was_tried : (t : Table) → tried form ≡ Ok t → (is_table form ≡ true) × (t ≡ table_of form)
+  was_tried t e = by_test (is_table form) (λ h. (h, let g : Ok (table_of form) ≡ Ok t = rw h at e in cc)) (λ h. absurd (let g : Err OutOfLimits ≡ Ok t = rw h at e in cc))
 
-    pub replay_done : (q : Parent) (o : Outcome) (held : Bool) (left : ℕ) → x ≡ true → q ≡ parent_of form.held form.parent → o ≡ replayed (record { places = form.places; parent = q }) l → held ≡ mark_of o.table.parent → left ≡ id_of o.table.parent
-        → ◌≡◌ {A = ReplayAnswer} (record { number = o.number; applies = o.applies; evaluations = o.evaluations; changes = o.changes; rises = o.rises; first = o.first; last = o.last; table = record { places = o.table.places; held = held; parent = left } }) (replayed_form form l)
+  was_stray : (r : Refusal) → tried form ≡ Err r → (is_table form ≡ false) × (r ≡ OutOfLimits)
+  was_stray r e = by_test (is_table form) (λ h. absurd (let g : Ok (table_of form) ≡ Err r = rw h at e in cc)) (λ h. (h, let g : Err OutOfLimits ≡ Err r = rw h at e in cc))
+
+  -- a table's C form: what C is told is the C form of the answer
+  told_is : is_table form ≡ true → (o : Result Ended Refusal) → outcome_told form o ≡ outcome_form (outcome_of (table_of form) o)
+  told_is h (Ok ended) = refl
+  told_is h (Err r) =
+      ap (λ (z : TableForm). record { number = number_of r; applies = false; evaluations = 0; changes = 0; rises = 0; first = 0; last = 0; table = z }) (sym (tables_are_forms form h))
+
+  module _ (s : Result Table Refusal) (e : s ≡ tried form) where
+    pub replay_stray : (r : Refusal) → s ≡ Err r → outcome_told form (Err r) ≡ replayed_form form l
     unfolding replayed_form
-    replay_done q o held left u g f m n =
-        let t : is_table form ≡ true = sym e ∙ u in
-        let y : o ≡ replayed (table_of form) l = f ∙ ap (λ (z : Parent). replayed (record { places = form.places; parent = z }) l) g in
-        if_on_lem (outcome_form (replayed (table_of form) l)) (replay_refusal form) (is_table form) t
-        ((λ i. record { number = o.number; applies = o.applies; evaluations = o.evaluations; changes = o.changes; rises = o.rises; first = o.first; last = o.last; table = record { places = o.table.places; held = m i; parent = n i } }) ∙ ap outcome_form y)
+    replay_stray r u =
+        let w = was_stray r (sym e ∙ u) in
+        if_off_lem (outcome_form (replayed (table_of form) l)) (replay_refusal form) (is_table form) w.0 (ap (λ (z : Refusal). outcome_told form (Err z)) w.1)
+
+    pub replay_done : (t : Table) (o : Result Ended Refusal) → s ≡ Ok t → outcome_of t o ≡ replayed t l → outcome_told form o ≡ replayed_form form l
+    unfolding replayed_form
+    replay_done t o u f =
+        let w = was_tried t (sym e ∙ u) in
+        let g : outcome_of (table_of form) o ≡ replayed (table_of form) l = subst (λ (z : Table). outcome_of z o ≡ replayed z l) w.1 f in
+        if_on_lem (outcome_form (replayed (table_of form) l)) (replay_refusal form) (is_table form) w.0 (told_is w.0 o ∙ ap outcome_form g)
+
+  -- the answer that C gets
+  pub replay_told : (o : Ended) (t : TableForm) → outcome_told form (Ok o) ≡ replayed_form form l → t ≡ form_of o.table
+      → ◌≡◌ {A = ReplayAnswer} (record { number = 0; applies = o.applies; evaluations = o.evaluations; changes = o.changes; rises = o.rises; first = o.first; last = o.last; table = t }) (replayed_form form l)
+  replay_told o t e f = (λ i. record { number = 0; applies = o.applies; evaluations = o.evaluations; changes = o.changes; rises = o.rises; first = o.first; last = o.last; table = f i }) ∙ e
+
+  pub replay_refused : (r : Refusal) (n : ℕ) → outcome_told form (Err r) ≡ replayed_form form l → n ≡ number_of r
+      → ◌≡◌ {A = ReplayAnswer} (record { number = n; applies = false; evaluations = 0; changes = 0; rises = 0; first = 0; last = 0; table = form }) (replayed_form form l)
+  replay_refused r n e f = (λ i. record { number = f i; applies = false; evaluations = 0; changes = 0; rises = 0; first = 0; last = 0; table = form }) ∙ e
 
   -- what the theorems say of an answer
   module _ (r : ReplayAnswer) (e : r ≡ replayed_form form l) where
@@ -202,8 +213,8 @@ module _ (form : TableForm) (l : Log) where
       ),
     )
 
-pub ruleset formWays = (parent_held, parent_none, is_held, is_none, refused_stray, refused_broken, length_mapped, outcome_refused, outcome_stored, outcome_nothing)
+pub ruleset formWays = (refused_stray, refused_broken, length_mapped, store_none, store_put)
 
-pub ruleset replayWays = (replay_stray, replay_done)
+pub ruleset toldWays = (replay_told, replay_refused)
 
 pub ruleset callWays = (length_mapped, empty_form_lem, evaluate_refused, advertise_form, report_form, forget_form, evaluate_done)

@@ -1,21 +1,19 @@
 -- The C form of a table and of each call's answer (docs/RULES.md, C interface). C has no enum with values, so a held parent is a
 -- mark and an identifier, which is 0 where the mark is off. Assumes nothing.
-use Rattle.std.specs.Prelude.{ℕ, Bool, true, false, not, ◌||◌, List, set, eqb}
+use Rattle.std.specs.Prelude.{ℕ, Bool, true, false, not, cond, ◌||◌, eqb, Option, Some, None, Result, Ok, Err}
 use Rattle.octets_spec.specs.Choice.{if_on}
-use Rattle.refusal.specs.Refusal.{out_of_limits}
+use Rattle.refusal.specs.declared.Refusal.{Refusal}
+use Rattle.refusal.specs.declared.Refusal.TheVariants.{OutOfLimits}
+use Rattle.refusal.specs.Refusal.{number_of, out_of_limits}
 use Rattle.nbr_metric_spec.specs.declared.Place.{Place}
-use Rattle.nbr_table_spec.specs.declared.Parent.{Parent}
-use Rattle.nbr_table_spec.specs.declared.Parent.TheVariants.{None, Held}
+use Rattle.nbr_metric_spec.specs.Metric.{blank}
+use Rattle.nbr_table_spec.specs.declared.Store.{Store}
 use Rattle.nbr_table_spec.specs.declared.Table.{Table}
-use Rattle.nbr_table_spec.specs.declared.Answer.{Answer}
-use Rattle.nbr_table_spec.specs.declared.Change.{Change}
-use Rattle.nbr_table_spec.specs.declared.Evaluation.{Evaluation}
-use Rattle.nbr_table_spec.specs.Calls.{advertised, broken, empty_table, evaluated, forgotten, id_of, mark_of, reported, same_parent}
-use Rattle.nbr_table_spec.specs.Stores.{stored}
-use Rattle.nbr_replay_spec.specs.declared.Outcome.{Outcome}
+use Rattle.nbr_table_spec.specs.Calls.{Answer, Evaluation, advertised, broken, empty_table, evaluated, forgotten, id_of, mark_of, reported, same_parent}
+use Rattle.nbr_table_spec.specs.Stores.{Change, stored}
+use Rattle.nbr_replay_spec.specs.declared.Outcome.{Outcome as Ended}
 use Rattle.nbr_replay_spec.specs.Log.{Log}
-use Rattle.nbr_replay_spec.specs.Replay.{replayed}
-use Rattle.c_table_spec.specs.declared.Stored.{Stored}
+use Rattle.nbr_replay_spec.specs.Replay.{Outcome, outcome_of, replayed}
 use Rattle.c_table_spec.specs.declared.TableForm.{TableForm}
 use Rattle.c_table_spec.specs.declared.TableAnswer.{TableAnswer}
 use Rattle.c_table_spec.specs.declared.EvaluationAnswer.{EvaluationAnswer}
@@ -23,9 +21,9 @@ use Rattle.c_table_spec.specs.declared.ReplayAnswer.{ReplayAnswer}
 
 -- ---- the held parent
 -- the parent that a mark and an identifier are
-unfoldable pub parent_of : Bool → ℕ → Parent
+unfoldable pub parent_of : Bool → ℕ → Option ℕ
 parent_of false id = None
-parent_of true id = Held id
+parent_of true id = Some id
 
 -- ---- the table
 -- the C form of a table
@@ -47,6 +45,10 @@ is_table form = is_parent form.held form.parent
 -- every call refuses a C form with 8 that is no table's, or whose table breaks a rule
 unfoldable pub refused : TableForm → Bool
 refused form = not (is_table form) || broken (table_of form)
+
+-- the table that a C form is, and a refusal of what is no table's
+abbrev pub tried : TableForm → Result Table Refusal
+tried form = cond (is_table form) (Ok (table_of form)) (Err OutOfLimits)
 
 -- the C form of the table without neighbours
 abbrev pub empty_form : TableForm
@@ -113,18 +115,30 @@ abbrev pub replay_refusal : TableForm → ReplayAnswer
 replay_refusal form =
     record { number = out_of_limits; applies = false; evaluations = 0; changes = 0; rises = 0; first = 0; last = 0; table = form }
 
+-- what C is told of a log's outcome
+abbrev pub outcome_told : TableForm → Result Ended Refusal → ReplayAnswer
+outcome_told form (Ok ended) = outcome_form (outcome_of (table_of form) (Ok ended))
+outcome_told form (Err refusal) =
+    record { number = number_of refusal; applies = false; evaluations = 0; changes = 0; rises = 0; first = 0; last = 0; table = form }
+
 -- replay
 unfoldable pub replayed_form : TableForm → Log → ReplayAnswer
 replayed_form form log = if_on (is_table form) (outcome_form (replayed (table_of form) log)) (replay_refusal form)
 
 -- ---- how the code goes: a change is stored, and this held parent is left
-unfoldable pub stored_form : TableForm → Change → Parent → TableAnswer
+unfoldable pub stored_form : TableForm → Change → Option ℕ → TableAnswer
 stored_form form change parent = if_on (is_table form) (answer_form (stored (table_of form) change parent)) (refusal form)
 
--- the answer, once the place is stored among these
-abbrev pub with_stored : List Place → Stored → TableAnswer
-with_stored places stored =
-    record {
-      number = stored.number;
-      table = record { places = set places stored.at stored.place; held = stored.held; parent = stored.parent };
-    }
+-- the number of the place that is stored, 32 for none
+abbrev pub at_of : Option Store → ℕ
+at_of None = 32
+at_of (Some store) = store.at
+
+-- and what is stored there
+abbrev pub place_of : Option Store → Place
+place_of None = blank
+place_of (Some store) = store.place
+
+-- the change of a number and of what is stored
+abbrev pub change_with : ℕ → Option Store → Change
+change_with number found = record { number = number; at = at_of found; place = place_of found }

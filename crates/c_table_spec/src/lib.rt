@@ -1,10 +1,16 @@
-// The C form of a neighbour table and of what the calls on it answer: structs without enums, laid out as C lays them out, and the
-// theorems that tie them to the tables of the rules (specs/). include/tesolvagna.h declares the same structs.
+// The C form of a neighbour table and of what the calls on it answer: structs without enums, laid out as C lays them out, how a table
+// becomes its C form and back, and the theorems that tie both to the tables of the rules (specs/). include/tesolvagna.h declares the
+// same structs: their marks beside an identifier and their numbers are the C interface.
 #![tactic(auto)]
 
+ghost use Rattle.std.specs.Prelude.{◌≡◌};
+ghost use Rattle.nbr_table_spec.specs.Calls.{id_of, mark_of};
+ghost use Rattle.c_table_spec.specs.Table.{form_of, is_table, parent_of, tried};
 ghost use Rattle.c_table_spec.specs.Claims.{AtMost101ChangesInC, CallsAgree, ChangesAreFlagged, EvaluationsAgree, FormsAreTables, NoneRefusedInC, ParentsDoNotFlapInC, RefusalsChangeNothing, TablesAreForms, Witnessed};
 
 use nbr_metric_spec::Place;
+use nbr_table_spec::Table;
+use refusal::Refusal;
 
 // A table: whether a parent is held, its identifier, 0 where none is held, and 32 places.
 #[repr(C)]
@@ -21,17 +27,6 @@ pub struct TableForm {
 pub struct TableAnswer {
     pub number: u8,
     pub table: TableForm,
-}
-
-// What a call comes to before the places are changed: its number, the place that it stores, at which number, and the held parent
-// afterwards.
-#[derive(Clone, Copy)]
-pub struct Stored {
-    pub number: u8,
-    pub at: usize,
-    pub place: Place,
-    pub held: bool,
-    pub parent: u64,
 }
 
 // What an evaluation answers: also whether the parent changed, the own rank (65535 without a parent and where it is refused), and
@@ -59,6 +54,62 @@ pub struct ReplayAnswer {
     pub first: u32,
     pub last: u32,
     pub table: TableForm,
+}
+
+impl TableForm {
+    // The held parent.
+    #[tactic(auto, unfolding(crate::specs::Table::parent_of))]
+    pub fn held_parent(&self) -> Option<u64>
+        ensures { result ≡ parent_of self.now.held self.now.parent }
+    {
+        if self.held { Some(self.parent) } else { None }
+    }
+
+    // Whether it is a table's: there is no identifier where no parent is held.
+    #[tactic(auto, unfolding(crate::specs::Table::is_parent))]
+    pub fn is_table(&self) -> bool
+        ensures { result ≡ is_table self.now }
+    {
+        self.held || self.parent == 0
+    }
+
+    // Makes this the held parent.
+    #[tactic(auto, unfolding(nbr_table_spec::specs::Calls::id_of, nbr_table_spec::specs::Calls::mark_of))]
+    pub fn hold(&mut self, parent: Option<u64>)
+        ensures { self.new ≡ record { places = self.old.places; held = mark_of parent; parent = id_of parent } }
+    {
+        self.held = parent.is_some();
+        self.parent = parent.unwrap_or(0);
+    }
+}
+
+impl From<&Table> for TableForm {
+    ghost from_gives = { λ table form. form ≡ form_of table.now };
+
+    #[tactic(auto, unfolding(nbr_table_spec::specs::Calls::id_of, nbr_table_spec::specs::Calls::mark_of))]
+    fn from(table: &Table) -> TableForm {
+        TableForm {
+            held: table.parent.is_some(),
+            parent: table.parent.unwrap_or(0),
+            places: table.places,
+        }
+    }
+}
+
+impl TryFrom<&TableForm> for Table {
+    type Error = Refusal;
+
+    ghost try_from_gives = { λ form result. result ≡ tried form.now };
+
+    fn try_from(form: &TableForm) -> Result<Table, Refusal> {
+        if !form.is_table() {
+            return Err(Refusal::OutOfLimits);
+        }
+        Ok(Table {
+            places: form.places,
+            parent: form.held_parent(),
+        })
+    }
 }
 
 // Cites each theorem, so that the gate fails if the proof of one goes.
