@@ -1,18 +1,24 @@
 // Prints the line of one acknowledgement: raw bytes from standard input, or from the file that the only argument names (docs/PROGRAMS.md).
 #![tactic(auto)]
 
-// What the program is called in what it tells.
-const PROGRAM: [u8; 3] = *b"ack";
+ghost use Rattle.std.specs.Prelude.{◌≤◌, length};
+
+use frame_program::{Lines, Program};
+
+// The line of an acknowledgement.
+struct Acks;
+
+impl Lines for Acks {
+    fn line(&self, frame: &[u8], buffer: &mut [u8]) -> usize {
+        text_ack::ack_line(frame, buffer)
+    }
+}
 
 fn main(rt: HostRuntime) {
-    let errors = rt.stderr();
-    let mut frame = [0u8; frame_program::MOST_READ];
-    let got = frame_program::take(&rt, &errors, &PROGRAM, &mut frame);
-    if got < 0 {
-        return;
-    }
-    let length = io::count(got, &frame);
-    let mut buffer = [0u8; text_ack::ROOM];
-    let end = text_ack::ack_line(&frame[..length], &mut buffer);
-    frame_program::print(&rt, &errors, &PROGRAM, &buffer[..end]);
+    let program = Program {
+        rt: &rt,
+        errors: &rt.stderr(),
+        name: b"ack",
+    };
+    let _ = program.run(&Acks, &mut [0u8; text_ack::ROOM]);
 }

@@ -1,18 +1,24 @@
 // Prints the line of one beacon: raw bytes from standard input, or from the file that the only argument names (docs/PROGRAMS.md).
 #![tactic(auto)]
 
-// What the program is called in what it tells.
-const PROGRAM: [u8; 5] = *b"bench";
+ghost use Rattle.std.specs.Prelude.{◌≤◌, length};
+
+use frame_program::{Lines, Program};
+
+// The line of a beacon.
+struct Beacons;
+
+impl Lines for Beacons {
+    fn line(&self, frame: &[u8], buffer: &mut [u8]) -> usize {
+        text_line::bench_line(frame, buffer)
+    }
+}
 
 fn main(rt: HostRuntime) {
-    let errors = rt.stderr();
-    let mut frame = [0u8; frame_program::MOST_READ];
-    let got = frame_program::take(&rt, &errors, &PROGRAM, &mut frame);
-    if got < 0 {
-        return;
-    }
-    let length = io::count(got, &frame);
-    let mut buffer = [0u8; text_line::ROOM];
-    let end = text_line::bench_line(&frame[..length], &mut buffer);
-    frame_program::print(&rt, &errors, &PROGRAM, &buffer[..end]);
+    let program = Program {
+        rt: &rt,
+        errors: &rt.stderr(),
+        name: b"bench",
+    };
+    let _ = program.run(&Beacons, &mut [0u8; text_line::ROOM]);
 }

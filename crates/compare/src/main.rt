@@ -1,39 +1,30 @@
 // Prints in which fields two beacons differ: raw bytes from the two files that the arguments name (docs/PROGRAMS.md).
 #![tactic(auto)]
 
+use frame_program::{Program, Told, two};
 use std::io::{Input, IsTerminal};
 use std::rt::{Env, Files};
 
-// What the program is called in what it tells.
-const PROGRAM: [u8; 7] = *b"compare";
-
-// Reads the second frame, and prints in what both differ.
-fn print_both<R: Env + Files + Input + Print>(
-    rt: &R,
-    errors: &(impl Print + IsTerminal),
-    first: &[u8],
-)
+// Reads both frames, prints in what they differ, and answers how many bytes that has. What went wrong is told.
+fn run<R: Env + Files + Input + Print, E: Print + IsTerminal>(
+    program: &Program<R, E>,
+) -> Result<usize, Told>
 where
     R::Reader: IsTerminal,
 {
+    let mut first = [0u8; frame_program::MOST_READ];
     let mut second = [0u8; frame_program::MOST_READ];
-    let got = frame_program::two::take_second(rt, errors, &PROGRAM, &mut second);
-    if got < 0 {
-        return;
-    }
-    let length = io::count(got, &second);
+    let (one, other) = two::take(program, &mut first, &mut second)?;
     let mut buffer = [0u8; text_compare::ROOM];
-    let end = text_compare::compare_text(first, &second[..length], &mut buffer);
-    frame_program::two::print(rt, errors, &PROGRAM, &buffer[..end]);
+    let end = text_compare::compare_text(&first[..one], &second[..other], &mut buffer);
+    two::print(program, &buffer[..end])
 }
 
 fn main(rt: HostRuntime) {
-    let errors = rt.stderr();
-    let mut first = [0u8; frame_program::MOST_READ];
-    let got = frame_program::two::take_first(&rt, &errors, &PROGRAM, &mut first);
-    if got < 0 {
-        return;
-    }
-    let length = io::count(got, &first);
-    print_both(&rt, &errors, &first[..length]);
+    let program = Program {
+        rt: &rt,
+        errors: &rt.stderr(),
+        name: b"compare",
+    };
+    let _ = run(&program);
 }

@@ -1,12 +1,9 @@
 // What the programs share that print what frames say: a frame comes in as raw bytes from standard input, or from a file that an argument
 // names, and the text goes out (docs/PROGRAMS.md). What is not about a frame is told on standard error. No contract can say what is read or
 // written. This file has what a program of one frame needs, src/two.rt what one of two frames does.
-//
-// A program hands over the system that it runs on, and its standard error, where a name is told as the bytes that it has.
 #![tactic(auto)]
 
-ghost use Rattle.std.specs.Prelude.{◌≤◌, length, IfOk};
-ghost use Rattle.frame_program.specs.Counts.{Moved, Status};
+ghost use Rattle.std.specs.Prelude.{◌≡◌, ◌≤◌, length, IfOk};
 
 use std::env::FillError;
 use std::fmt::InlineText;
@@ -18,12 +15,6 @@ pub mod two;
 
 // One byte more than the longest frame is read, so that a longer input is refused for its length.
 pub const MOST_READ: usize = 126;
-// The count where no frame came in, as where a read failed.
-pub(crate) const NO_FRAME: isize = -1;
-// What printing answers where the line is out.
-pub(crate) const PRINTED: i32 = 0;
-// What printing answers where a write failed.
-const NOT_PRINTED: i32 = -1;
 // The system's numbers for an argument that is not there, and for one that is too long.
 const INVALID: i32 = 22;
 
@@ -31,9 +22,23 @@ const TOO_LONG: i32 = 36;
 // The file that standard output is, where it is one.
 const OUTPUT: &str = "/dev/stdout";
 
-// Tells something on standard error.
-pub(crate) fn tell(errors: &impl Print, text: &[u8]) {
-    let _ = errors.write_all(text);
+// Something went wrong, and was told on standard error.
+#[derive(Clone, Copy)]
+pub struct Told;
+
+// A program: the system that it runs on, its standard error, and what it is called there.
+#[derive(Drop)]
+pub struct Program<'a, R, E> {
+    pub rt: &'a R,
+    pub errors: &'a E,
+    pub name: &'a [u8],
+}
+
+// What a program of one frame prints of it.
+pub trait Lines {
+    // Puts a frame's line at the start of a buffer, and answers how many bytes the line has.
+    fn line(&self, frame: &[u8], buffer: &mut [u8]) -> usize
+        ensures { result ≤ length buffer.new };
 }
 
 // The system's reason alone, behind which std puts its number.
@@ -44,132 +49,18 @@ fn reason(text: &str) -> &str {
     }
 }
 
-// Tells what failed, with the system's reason for it.
-pub(crate) fn fail(errors: &impl Print, program: &[u8], what: &[u8], error: Error) {
-    tell(errors, program);
-    tell(errors, b": ");
-    tell(errors, what);
-    tell(errors, b": ");
-    let text = InlineText::<256>::of(error);
-    tell(errors, reason(text.as_str()).as_bytes());
-    tell(errors, b"\n");
-}
-
-// Tells that an argument is unknown, and begins to tell how the program is called.
-pub(crate) fn unknown(errors: &impl Print, program: &[u8], argument: &[u8]) {
-    tell(errors, program);
-    tell(errors, b": ");
-    tell(errors, argument);
-    tell(errors, b": unknown argument\nusage: ");
-    tell(errors, program);
-}
-
-// Begins to tell what is awaited at a terminal.
-pub(crate) fn hint(errors: &impl Print, program: &[u8]) {
-    tell(errors, program);
-    tell(
-        errors,
-        b": standard input: a terminal; a frame is raw bytes",
-    );
-}
-
-// Tells that an argument is unknown, and how the program is called.
-fn usage(errors: &impl Print, program: &[u8], argument: &[u8]) {
-    unknown(errors, program, argument);
-    tell(
-        errors,
-        b" [FILE]; without FILE the frame comes from standard input\n",
-    );
-}
-
-// Tells how a frame comes in, behind a hint.
-fn ways(errors: &impl Print, program: &[u8]) {
-    tell(errors, b": ");
-    tell(errors, program);
-    tell(errors, b" FILE, or ");
-    tell(errors, program);
-    tell(errors, b" <FILE\n");
-}
-
-// How many arguments the program was started with, its own name among them.
-pub(crate) fn arg_count(rt: &impl Env) -> usize {
-    let mut space = io::buffer();
-    for place in 0..usize::MAX {
-        if let Err(FillError::NotPresent) = rt.arg(place, &mut space) {
-            return place;
-        }
-    }
-    usize::MAX
-}
-
-// Puts the argument at a place at the start of a space, and answers its length.
-pub(crate) fn argument(rt: &impl Env, place: usize, space: &mut [u8]) -> Result<usize, Error>
-    ensures { IfOk result (λ size. size ≤ length space.new) }
-{
-    match rt.arg(place, space) {
-        Ok(size) => Ok(size),
-        Err(FillError::NotPresent) => Err(Error::from_raw_os_error(INVALID)),
-        Err(FillError::TooLong) => Err(Error::from_raw_os_error(TOO_LONG)),
-    }
-}
-
-// Reads one byte, puts it at an offset of the frame, and answers 1, or 0 at the end of the input.
-fn read_byte(input: &mut impl Read, frame: &mut [u8], at: usize) -> Result<usize, Error> {
-    let mut one = [0u8; 1];
-    let got = input.read(&mut one)?;
-    if got > 0 && at < frame.len() {
-        frame[at] = one[0];
-    }
-    Ok(got)
-}
-
 // Reads into the frame until it is full or the input ends, and answers how many bytes it read.
 fn read_frame(input: &mut impl Read, frame: &mut [u8]) -> Result<usize, Error>
     ensures { IfOk result (λ count. count ≤ length frame.old) }
 {
-    let mut length = 0;
-    while length < frame.len() {
-        let got = read_byte(input, frame, length)?;
-        if got == 0 {
+    for (length, place) in frame.iter_mut().enumerate() {
+        let mut one = [0u8; 1];
+        if input.read(&mut one)? == 0 {
             return Ok(length);
         }
-        length += 1;
+        *place = one[0];
     }
-    Ok(length)
-}
-
-// Each of these reads into the frame, and answers how many bytes it read, or -1 where none came in.
-//
-// From an input, which goes by a name.
-pub(crate) fn take_from(
-    errors: &impl Print,
-    program: &[u8],
-    input: &mut impl Read,
-    name: &[u8],
-    frame: &mut [u8],
-) -> isize
-    ensures { Moved (length frame.old) result }
-{
-    match read_frame(input, frame) {
-        Ok(length) => length as isize,
-        Err(error) => {
-            fail(errors, program, name, error);
-            NO_FRAME
-        }
-    }
-}
-
-fn take_input<R: Input>(rt: &R, errors: &impl Print, program: &[u8], frame: &mut [u8]) -> isize
-where
-    R::Reader: IsTerminal,
-    ensures { Moved (length frame.old) result }
-{
-    let mut input = rt.reader();
-    if input.is_terminal() {
-        hint(errors, program);
-        ways(errors, program);
-    }
-    take_from(errors, program, &mut input, b"standard input", frame)
+    Ok(frame.len())
 }
 
 // Opens a file for reading. The names of std are text.
@@ -178,76 +69,6 @@ fn open<R: Files>(rt: &R, path: &[u8]) -> Result<R::File, Error> {
         Ok(path) => std::fs::open(rt, path),
         Err(_) => Err(Error::new(ErrorKind::InvalidFilename, "The name is not UTF-8")),
     }
-}
-
-pub(crate) fn take_file(
-    rt: &impl Files,
-    errors: &impl Print,
-    program: &[u8],
-    path: &[u8],
-    frame: &mut [u8],
-) -> isize
-    ensures { Moved (length frame.old) result }
-{
-    match open(rt, path) {
-        Ok(mut file) => take_from(errors, program, &mut file, path, frame),
-        Err(error) => {
-            fail(errors, program, path, error);
-            NO_FRAME
-        }
-    }
-}
-
-// An argument that begins with a hyphen names no file.
-pub(crate) fn is_option(argument: &[u8]) -> bool {
-    if argument.len() == 0 {
-        return false;
-    }
-    argument[0] == b'-'
-}
-
-// From the file that the last argument names, which is the only one if it is the first.
-fn take_argument(
-    rt: &(impl Env + Files),
-    errors: &impl Print,
-    program: &[u8],
-    last: usize,
-    frame: &mut [u8],
-) -> isize
-    ensures { Moved (length frame.old) result }
-{
-    let mut space = io::buffer();
-    match argument(rt, last, &mut space) {
-        Ok(length) => {
-            if last > 1 || is_option(&space[..length]) {
-                usage(errors, program, &space[..length]);
-                return NO_FRAME;
-            }
-            take_file(rt, errors, program, &space[..length], frame)
-        }
-        Err(error) => {
-            fail(errors, program, b"argument", error);
-            NO_FRAME
-        }
-    }
-}
-
-// Reads the frame of a program that is called so, and answers how many bytes it has, or -1 where none came in, which is told then.
-pub fn take<R: Env + Files + Input>(
-    rt: &R,
-    errors: &impl Print,
-    program: &[u8],
-    frame: &mut [u8],
-) -> isize
-where
-    R::Reader: IsTerminal,
-    ensures { Moved (length frame.old) result }
-{
-    let count = arg_count(rt);
-    if count < 2 {
-        return take_input(rt, errors, program, frame);
-    }
-    take_argument(rt, errors, program, count - 1, frame)
 }
 
 // What a disk tells only later is a failed write too. A program cannot close its standard output and hear of it, so where that is a file,
@@ -275,13 +96,166 @@ fn put(rt: &(impl Print + Files), text: &[u8]) -> Result<(), Error> {
     settle(rt)
 }
 
-// Prints the text of a program that is called so, and answers 0, or -1 where a write failed, which is told then.
-pub fn print(rt: &(impl Print + Files), errors: &impl Print, program: &[u8], text: &[u8]) -> i32
-    ensures { Status result }
-{
-    if let Err(error) = put(rt, text) {
-        fail(errors, program, b"standard output", error);
-        return NOT_PRINTED;
+impl<'a, R, E: Print> Program<'a, R, E> {
+    // Tells texts one behind the other.
+    pub(crate) fn tell(&self, texts: &[&[u8]]) {
+        for text in texts {
+            let _ = self.errors.write_all(text);
+        }
     }
-    PRINTED
+
+    // Tells what failed, with the system's reason for it.
+    pub(crate) fn fail(&self, what: &[u8], error: Error) -> Told {
+        let text = InlineText::<256>::of(error);
+        self.tell(&[
+            self.name,
+            b": ",
+            what,
+            b": ",
+            reason(text.as_str()).as_bytes(),
+            b"\n",
+        ]);
+        Told
+    }
+
+    // Tells that an argument is unknown, and how the program is called.
+    pub(crate) fn unknown(&self, argument: &[u8], usage: &[u8]) -> Told {
+        let name = self.name;
+        self.tell(&[
+            name,
+            b": ",
+            argument,
+            b": unknown argument\nusage: ",
+            name,
+            usage,
+        ]);
+        Told
+    }
+
+    // Tells that an argument cannot be had.
+    pub(crate) fn no_argument(&self, error: FillError) -> Told {
+        let number = match error {
+            FillError::NotPresent => INVALID,
+            FillError::TooLong => TOO_LONG,
+        };
+        self.fail(b"argument", Error::from_raw_os_error(number))
+    }
+
+    // Each of these reads into the frame, and answers how many bytes it read. Where none came in, that is told.
+    //
+    // From an input, which goes by a name.
+    fn take_from(&self, input: &mut impl Read, name: &[u8], frame: &mut [u8]) -> Result<usize, Told>
+        ensures { IfOk result (λ count. count ≤ length frame.old) }
+    {
+        read_frame(input, frame).map_err(|error| self.fail(name, error))
+    }
+}
+
+impl<'a, R: Files, E: Print> Program<'a, R, E> {
+    pub(crate) fn take_file(&self, path: &[u8], frame: &mut [u8]) -> Result<usize, Told>
+        ensures { IfOk result (λ count. count ≤ length frame.old) }
+    {
+        match open(self.rt, path) {
+            Ok(mut file) => self.take_from(&mut file, path, frame),
+            Err(error) => Err(self.fail(path, error)),
+        }
+    }
+}
+
+impl<'a, R: Input, E: Print> Program<'a, R, E>
+where
+    R::Reader: IsTerminal,
+{
+    // From standard input. At a terminal it tells what is awaited, and texts behind that.
+    pub(crate) fn take_input(&self, ways: &[&[u8]], frame: &mut [u8]) -> Result<usize, Told>
+        ensures { IfOk result (λ count. count ≤ length frame.old) }
+    {
+        let mut input = self.rt.reader();
+        if input.is_terminal() {
+            self.tell(&[
+                self.name,
+                b": standard input: a terminal; a frame is raw bytes",
+            ]);
+            self.tell(ways);
+        }
+        self.take_from(&mut input, b"standard input", frame)
+    }
+}
+
+impl<'a, R: Env, E: Print> Program<'a, R, E> {
+    // How many arguments the program was started with, its own name among them.
+    pub(crate) fn arg_count(&self) -> usize {
+        let mut space = io::buffer();
+        for place in 0..usize::MAX {
+            if let Err(FillError::NotPresent) = self.rt.arg(place, &mut space) {
+                return place;
+            }
+        }
+        usize::MAX
+    }
+}
+
+impl<'a, R: Env + Files, E: Print> Program<'a, R, E> {
+    // From the file that the last argument names, which is the only one if it is the first. One that begins with a hyphen names no file.
+    fn take_argument(&self, last: usize, frame: &mut [u8]) -> Result<usize, Told>
+        ensures { IfOk result (λ count. count ≤ length frame.old) }
+    {
+        let mut space = io::buffer();
+        let length = self
+            .rt
+            .arg(last, &mut space)
+            .map_err(|error| self.no_argument(error))?;
+        let argument = &space[..length];
+        if last > 1 || argument.starts_with(b"-") {
+            return Err(self.unknown(
+                argument,
+                b" [FILE]; without FILE the frame comes from standard input\n",
+            ));
+        }
+        self.take_file(argument, frame)
+    }
+}
+
+impl<'a, R: Env + Files + Input, E: Print> Program<'a, R, E>
+where
+    R::Reader: IsTerminal,
+{
+    // Reads the frame of a program of one.
+    pub fn take(&self, frame: &mut [u8]) -> Result<usize, Told>
+        ensures { IfOk result (λ count. count ≤ length frame.old) }
+    {
+        let count = self.arg_count();
+        if count < 2 {
+            let name = self.name;
+            return self.take_input(&[b": ", name, b" FILE, or ", name, b" <FILE\n"], frame);
+        }
+        self.take_argument(count - 1, frame)
+    }
+}
+
+impl<'a, R: Print + Files, E: Print> Program<'a, R, E> {
+    // Prints text, and answers how many bytes it has. A write that failed is told.
+    pub fn print(&self, text: &[u8]) -> Result<usize, Told>
+        ensures { IfOk result (λ printed. printed ≡ length text.now) }
+    {
+        match put(self.rt, text) {
+            Ok(()) => Ok(text.len()),
+            Err(error) => Err(self.fail(b"standard output", error)),
+        }
+    }
+}
+
+impl<'a, R: Env + Files + Input + Print, E: Print> Program<'a, R, E>
+where
+    R::Reader: IsTerminal,
+{
+    // Reads a frame, prints the line that is put for it into a lent buffer, and answers how many bytes the line has. What went wrong is told.
+    pub fn run(&self, lines: &impl Lines, buffer: &mut [u8]) -> Result<usize, Told>
+        ensures { IfOk result (λ printed. printed ≤ length buffer.old) }
+    {
+        let mut frame = [0u8; MOST_READ];
+        let length = self.take(&mut frame)?;
+        let end = lines.line(&frame[..length], buffer);
+        self.print(&buffer[..end])
+    }
 }

@@ -1,8 +1,8 @@
 // What a program of two frames needs: each frame comes from the file that its argument names, and a hyphen alone stands for standard input.
-ghost use Rattle.std.specs.Prelude.{length};
-ghost use Rattle.frame_program.specs.Counts.{Moved, Status};
+ghost use Rattle.std.specs.Prelude.{◌≡◌, ◌≤◌, length, IfOk};
 
-use crate::{NO_FRAME, PRINTED};
+use crate::{Program, Told};
+use std::fmt::InlineText;
 use std::io::{Input, IsTerminal};
 use std::rt::{Env, Files};
 
@@ -12,181 +12,115 @@ const FIRST: usize = 1;
 const SECOND: usize = 2;
 
 const COUNT: usize = 3;
-
-// Tells how the program is called, behind its name.
-fn called(errors: &impl Print) {
-    crate::tell(errors, b" GOOD BAD; - for one of them is standard input\n");
-}
+// How the program is called, behind its name.
+const CALLED: &str = " GOOD BAD; - for one of them is standard input\n";
 
 // Tells that there are so many arguments, and how the program is called.
-fn wrong_count(errors: &impl Print, program: &[u8], count: usize) {
-    let mut digits = [0u8; 20];
-    let size = io::decimal(count as u64, &mut digits);
-    crate::tell(errors, program);
-    crate::tell(errors, b": arguments: ");
-    crate::tell(errors, &digits[..size]);
-    crate::tell(errors, b", where 2 are needed\nusage: ");
-    crate::tell(errors, program);
-    called(errors);
+fn wrong_count<R, E: Print>(program: &Program<R, E>, count: usize) -> Told {
+    let name = program.name;
+    let digits = InlineText::<20>::of(count);
+    program.tell(&[
+        name,
+        b": arguments: ",
+        digits.as_str().as_bytes(),
+        b", where 2 are needed\nusage: ",
+        name,
+        CALLED.as_bytes(),
+    ]);
+    Told
 }
 
 // Tells that both arguments are standard input, and how the program is called.
-fn one_input(errors: &impl Print, program: &[u8]) {
-    crate::tell(errors, program);
-    crate::tell(errors, b": -: standard input is one frame\nusage: ");
-    crate::tell(errors, program);
-    called(errors);
+fn one_input<R, E: Print>(program: &Program<R, E>) -> Told {
+    let name = program.name;
+    program.tell(&[
+        name,
+        b": -: standard input is one frame\nusage: ",
+        name,
+        CALLED.as_bytes(),
+    ]);
+    Told
 }
 
-// Whether an argument is the hyphen that stands for standard input.
-fn is_hyphen(argument: &[u8]) -> bool {
-    if argument.len() != 1 {
-        return false;
-    }
-    argument[0] == b'-'
-}
-
-// Whether the argument at a place is that hyphen.
-fn is_input(rt: &impl Env, place: usize) -> bool {
+// Whether the argument at a place is the hyphen that stands for standard input. A longer one that begins with a hyphen is unknown.
+fn is_input<R: Env, E: Print>(program: &Program<R, E>, place: usize) -> Result<bool, Told> {
     let mut space = io::buffer();
-    match crate::argument(rt, place, &mut space) {
-        Ok(length) => is_hyphen(&space[..length]),
-        Err(_) => false,
-    }
-}
-
-// Whether the argument at a place may be a frame's; it is told if it begins with a hyphen and is longer.
-fn is_known(rt: &impl Env, errors: &impl Print, program: &[u8], place: usize) -> bool {
-    let mut space = io::buffer();
-    let Ok(length) = crate::argument(rt, place, &mut space) else {
-        return true;
+    let Ok(length) = program.rt.arg(place, &mut space) else {
+        return Ok(false);
     };
-    if is_hyphen(&space[..length]) || !crate::is_option(&space[..length]) {
-        return true;
+    let argument = &space[..length];
+    if length > 1 && argument.starts_with(b"-") {
+        return Err(program.unknown(argument, CALLED.as_bytes()));
     }
-    crate::unknown(errors, program, &space[..length]);
-    called(errors);
-    false
+    Ok(argument.starts_with(b"-"))
 }
 
-// How many arguments there are besides the program's own name.
-fn given(count: usize) -> usize {
-    if count == 0 {
-        return 0;
-    }
-    count - 1
-}
-
-// Whether there are two arguments that name frames, of which at most one is standard input; what is wrong is told.
-fn are_frames(rt: &impl Env, errors: &impl Print, program: &[u8]) -> bool {
-    let count = crate::arg_count(rt);
+// Looks whether there are two arguments that name frames, of which at most one is standard input.
+fn look<R: Env, E: Print>(program: &Program<R, E>) -> Result<(), Told> {
+    let count = program.arg_count();
     if count != COUNT {
-        wrong_count(errors, program, given(count));
-        return false;
+        return Err(wrong_count(program, count.saturating_sub(1)));
     }
-    if !is_known(rt, errors, program, FIRST) || !is_known(rt, errors, program, SECOND) {
-        return false;
+    let first = is_input(program, FIRST)?;
+    let second = is_input(program, SECOND)?;
+    if first && second {
+        return Err(one_input(program));
     }
-    if is_input(rt, FIRST) && is_input(rt, SECOND) {
-        one_input(errors, program);
-        return false;
-    }
-    true
+    Ok(())
 }
 
-// From standard input.
-fn take_input<R: Input>(rt: &R, errors: &impl Print, program: &[u8], frame: &mut [u8]) -> isize
-where
-    R::Reader: IsTerminal,
-    ensures { Moved (length frame.old) result }
-{
-    let mut input = rt.reader();
-    if input.is_terminal() {
-        crate::hint(errors, program);
-        crate::tell(errors, b"\n");
-    }
-    crate::take_from(errors, program, &mut input, b"standard input", frame)
-}
-
-// From what the argument at a place names.
-fn take<R: Env + Files + Input>(
-    rt: &R,
-    errors: &impl Print,
-    program: &[u8],
+// Reads from what the argument at a place names.
+fn take_one<R: Env + Files + Input, E: Print>(
+    program: &Program<R, E>,
     place: usize,
     frame: &mut [u8],
-) -> isize
+) -> Result<usize, Told>
 where
     R::Reader: IsTerminal,
-    ensures { Moved (length frame.old) result }
+    ensures { IfOk result (λ count. count ≤ length frame.old) }
 {
     let mut space = io::buffer();
-    match crate::argument(rt, place, &mut space) {
-        Ok(length) => {
-            if is_hyphen(&space[..length]) {
-                return take_input(rt, errors, program, frame);
-            }
-            crate::take_file(rt, errors, program, &space[..length], frame)
-        }
-        Err(error) => {
-            crate::fail(errors, program, b"argument", error);
-            NO_FRAME
-        }
+    let length = program
+        .rt
+        .arg(place, &mut space)
+        .map_err(|error| program.no_argument(error))?;
+    let argument = &space[..length];
+    if argument == b"-".as_slice() {
+        return program.take_input(&[b"\n"], frame);
     }
+    program.take_file(argument, frame)
 }
 
-// Reads the first frame of a program that is called so, after a look at both arguments, and answers how many bytes it has, or -1 where none
-// came in, which is told then.
-pub fn take_first<R: Env + Files + Input>(
-    rt: &R,
-    errors: &impl Print,
-    program: &[u8],
-    frame: &mut [u8],
-) -> isize
+// Reads both frames, after a look at both arguments, and answers how many bytes each has. Where one did not come in, that is told, and the
+// second is not looked at where it is the first.
+pub fn take<R: Env + Files + Input, E: Print>(
+    program: &Program<R, E>,
+    first: &mut [u8],
+    second: &mut [u8],
+) -> Result<(usize, usize), Told>
 where
     R::Reader: IsTerminal,
-    ensures { Moved (length frame.old) result }
+    ensures first { IfOk result (λ counts. counts.0 ≤ length first.old) }
+    ensures second { IfOk result (λ counts. counts.1 ≤ length second.old) }
 {
-    if !are_frames(rt, errors, program) {
-        return NO_FRAME;
-    }
-    take(rt, errors, program, FIRST, frame)
+    look(program)?;
+    let one = take_one(program, FIRST, first)?;
+    let other = take_one(program, SECOND, second)?;
+    Ok((one, other))
 }
 
-// The same for the second frame, once the first was read.
-pub fn take_second<R: Env + Files + Input>(
-    rt: &R,
-    errors: &impl Print,
-    program: &[u8],
-    frame: &mut [u8],
-) -> isize
-where
-    R::Reader: IsTerminal,
-    ensures { Moved (length frame.old) result }
-{
-    take(rt, errors, program, SECOND, frame)
-}
-
-// Tells that two records are equal, at a terminal.
-fn remark_equal(errors: &(impl Print + IsTerminal), program: &[u8]) {
-    if errors.is_terminal() {
-        crate::tell(errors, program);
-        crate::tell(errors, b": equal\n");
-    }
-}
-
-// Prints the lines of two frames, and answers 0, or -1 where a write failed, which is told then. Equal records have no lines.
-pub fn print(
-    rt: &(impl Print + Files),
-    errors: &(impl Print + IsTerminal),
-    program: &[u8],
+// Prints the lines of two frames, and answers how many bytes they have. Equal records have no lines, which is told at a terminal.
+pub fn print<R: Print + Files, E: Print + IsTerminal>(
+    program: &Program<R, E>,
     lines: &[u8],
-) -> i32
-    ensures { Status result }
+) -> Result<usize, Told>
+    ensures { IfOk result (λ printed. printed ≡ length lines.now) }
 {
     if lines.len() == 0 {
-        remark_equal(errors, program);
-        return PRINTED;
+        if program.errors.is_terminal() {
+            program.tell(&[program.name, b": equal\n"]);
+        }
+        return Ok(0);
     }
-    crate::print(rt, errors, program, lines)
+    program.print(lines)
 }

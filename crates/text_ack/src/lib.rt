@@ -2,112 +2,98 @@
 // u64, so that 192 bytes hold every line.
 #![tactic(auto)]
 
-ghost use Rattle.std.specs.Prelude.{◌≡◌, ◌+◌, nat_abs, pos, length};
-ghost use Rattle.std.specs.Int.Signed.{lt_z};
+ghost use Rattle.std.specs.Prelude.{◌≡◌, ◌+◌, length};
 ghost use Rattle.io.specs.Counts.{IsPrefixLen};
-ghost use Rattle.text_put_spec.specs.Part.{starts_with, PartPut};
-ghost use Rattle.text_ack_spec.specs.AckLine.{signed, sequence_text, kind_text, address_text, addresses_text, correction_text, acknowledged_text, ack_text, ack_line_for};
+ghost use Rattle.text_put.specs.Puts.{Puts};
+ghost use Rattle.text_put_spec.specs.Part.{starts_with};
+ghost use Rattle.text_ack_spec.specs.AckLine.{signed, sequence_text, kind_text, address_text, addresses_text, correction_text, acknowledged_text, ack_text, ack_line_of, ack_line_for};
+ghost use Rattle.ack_read_spec.specs.Read.{read_ack};
 
 use ack_record_spec::Ack;
 use mac_header_spec::{Address, SequenceNumber};
+use text_put::Line;
 
 // The least buffer that gets a line.
 pub const ROOM: usize = 192;
 
-fn is_negative(value: i32) -> bool
-    ensures { result ≡ lt_z value (pos 0) }
+// Each of these puts a part into a line.
+fn put_signed(line: &mut Line, value: i32)
+    ensures { Puts 21 line.old (signed value) line.new }
 {
-    value < 0
-}
-
-// A number without its sign.
-fn magnitude(value: i32) -> u64
-    ensures { result ≡ nat_abs value }
-{
-    let wide = value as i64;
-    if wide < 0 {
-        return (-wide) as u64;
+    let negative = value < 0;
+    if negative {
+        line.text(b"-");
     }
-    wide as u64
+    line.decimal(u64::from(value.unsigned_abs()));
 }
 
-// Each of these puts a part of the line from an offset on, and answers the offset behind it.
-fn put_signed(buffer: &mut [u8], at: usize, value: i32) -> usize
-    ensures { PartPut 21 buffer.old at (signed value) buffer.new result }
-{
-    let size = magnitude(value);
-    if is_negative(value) {
-        let next = text_put::text(buffer, at, b"-");
-        return text_put::decimal(buffer, next, size);
-    }
-    text_put::decimal(buffer, at, size)
-}
-
-fn put_sequence(buffer: &mut [u8], at: usize, sequence: SequenceNumber) -> usize
-    ensures { PartPut 24 buffer.old at (sequence_text sequence) buffer.new result }
+fn put_sequence(line: &mut Line, sequence: SequenceNumber)
+    ensures { Puts 24 line.old (sequence_text sequence) line.new }
 {
     match sequence {
-        SequenceNumber::Absent => text_put::text(buffer, at, b"seq absent"),
-        SequenceNumber::Number(number) => text_put::field(buffer, at, b"seq ", number as u64),
+        SequenceNumber::Absent => line.text(b"seq absent"),
+        SequenceNumber::Number(number) => line.field(b"seq ", u64::from(number)),
     }
 }
 
-fn put_kind(buffer: &mut [u8], at: usize, address: Address) -> usize
-    ensures { PartPut 29 buffer.old at (kind_text address) buffer.new result }
+fn put_kind(line: &mut Line, address: Address)
+    ensures { Puts 29 line.old (kind_text address) line.new }
 {
     match address {
-        Address::Short(number) => text_put::field(buffer, at, b"short ", number as u64),
-        Address::Extended(number) => text_put::field(buffer, at, b"extended ", number),
+        Address::Short(number) => line.field(b"short ", u64::from(number)),
+        Address::Extended(number) => line.field(b"extended ", number),
     }
 }
 
-fn put_address(buffer: &mut [u8], at: usize, name: &[u8], address: Address) -> usize
-    ensures { PartPut (length name.now + 29) buffer.old at (address_text name.now address) buffer.new result }
+fn put_address(line: &mut Line, name: &[u8], address: Address)
+    ensures { Puts (length name.now + 29) line.old (address_text name.now address) line.new }
 {
-    let next = text_put::text(buffer, at, name);
-    put_kind(buffer, next, address)
+    line.text(name);
+    put_kind(line, address)
 }
 
-fn put_addresses(
-    buffer: &mut [u8],
-    at: usize,
-    pan: u16,
-    destination: Address,
-    source: Address,
-) -> usize
-    ensures { PartPut 104 buffer.old at (addresses_text pan destination source) buffer.new result }
+fn put_addresses(line: &mut Line, pan: u16, destination: Address, source: Address)
+    ensures { Puts 104 line.old (addresses_text pan destination source) line.new }
 {
-    let next = text_put::field(buffer, at, b" pan ", pan as u64);
-    let last = put_address(buffer, next, b" destination ", destination);
-    put_address(buffer, last, b" source ", source)
+    line.field(b" pan ", u64::from(pan));
+    put_address(line, b" destination ", destination);
+    put_address(line, b" source ", source)
 }
 
-fn put_correction(buffer: &mut [u8], at: usize, correction: i32) -> usize
-    ensures { PartPut 33 buffer.old at (correction_text correction) buffer.new result }
+fn put_correction(line: &mut Line, correction: i32)
+    ensures { Puts 33 line.old (correction_text correction) line.new }
 {
-    let next = text_put::text(buffer, at, b" correction ");
-    put_signed(buffer, next, correction)
+    line.text(b" correction ");
+    put_signed(line, correction)
 }
 
-fn put_acknowledged(buffer: &mut [u8], at: usize, nack: bool) -> usize
-    ensures { PartPut 18 buffer.old at (acknowledged_text nack) buffer.new result }
+fn put_acknowledged(line: &mut Line, nack: bool)
+    ensures { Puts 18 line.old (acknowledged_text nack) line.new }
 {
     if nack {
-        return text_put::text(buffer, at, b" acknowledged no\n");
+        line.text(b" acknowledged no\n");
+    } else {
+        line.text(b" acknowledged yes\n");
     }
-    text_put::text(buffer, at, b" acknowledged yes\n")
 }
 
-fn put_accepted(buffer: &mut [u8], at: usize, ack: Ack) -> usize
-    ensures { PartPut 179 buffer.old at (ack_text ack) buffer.new result }
+fn put_accepted(line: &mut Line, ack: &Ack)
+    ensures { Puts 179 line.old (ack_text ack.now) line.new }
 {
-    let sequence = ack.sequence;
-    let destination = ack.destination;
-    let source = ack.source;
-    let next = put_sequence(buffer, at, sequence);
-    let behind = put_addresses(buffer, next, ack.pan, destination, source);
-    let last = put_correction(buffer, behind, ack.correction);
-    put_acknowledged(buffer, last, ack.nack)
+    put_sequence(line, ack.sequence);
+    put_addresses(line, ack.pan, ack.destination, ack.source);
+    put_correction(line, ack.correction);
+    put_acknowledged(line, ack.nack);
+}
+
+// The line of a frame's reading.
+fn put_line(line: &mut Line, s: &[u8])
+    ensures { Puts 179 line.old (ack_line_of (read_ack s.now)) line.new }
+{
+    match ack_read::read(s) {
+        Ok(ack) => put_accepted(line, &ack),
+        Err(refusal) => line.refused(refusal.number()),
+    }
 }
 
 // Reads a frame, puts its line at the start of the buffer, and answers how many bytes the line has. A buffer of under 192 bytes is left as
@@ -120,9 +106,7 @@ pub fn ack_line(s: &[u8], buffer: &mut [u8]) -> usize
     if buffer.len() < ROOM {
         return 0;
     }
-    let answer = ack_read::read(s);
-    if answer.number != refusal::DONE {
-        return text_put::refused(buffer, 0, answer.number);
-    }
-    put_accepted(buffer, 0, answer.ack)
+    let mut line = Line { buffer, end: 0 };
+    put_line(&mut line, s);
+    line.end
 }

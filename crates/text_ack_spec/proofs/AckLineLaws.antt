@@ -1,7 +1,7 @@
 -- The laws of the line's parts, in the shape in which the code meets them: each way of a choice, parts in a row, and the whole line. Assumes
 -- nothing.
 use Prim.Native.Nat.{ℕ, ◌+◌, ◌≤◌}
-use mathlib.Core.Path.{◌≡◌, refl, sym, ◌∙◌, ap, subst}
+use mathlib.Core.Path.{◌≡◌, refl, ◌∙◌, ap, subst}
 use mathlib.Core.Bool.{Bool, true, false}
 use mathlib.Core.List.{List, ◌++◌}
 use native.Mathlib.Omega.{arith}
@@ -10,15 +10,18 @@ use lib.IntN.{ℤ, pos, negsuc, nat_abs}
 use lib.ListN.{length}
 use lib.Signed.{lt_z}
 use borrow.Author.Tests.{ltb-true}
-use Rattle.octets_spec.specs.Choice.{if_on}
-use Rattle.octets_spec.proofs.ChoiceLaws.{if_eq_lem, if_ne_lem}
+use Rattle.std.specs.Prelude.{Result, Ok, Err}
+use Rattle.octets_spec.specs.Choice.{if_on, if_eq}
+use Rattle.octets_spec.proofs.ChoiceLaws.{if_ne_lem}
+use Rattle.refusal.specs.declared.Refusal.{Refusal}
+use Rattle.refusal.specs.Refusal.{number_of}
+use Rattle.refusal.proofs.NumberLaws.{number_some}
 use Rattle.mac_header_spec.specs.declared.Address.{Address}
 use Rattle.mac_header_spec.specs.declared.Address.TheVariants.{Short, Extended}
 use Rattle.mac_header_spec.specs.declared.SequenceNumber.{SequenceNumber}
 use Rattle.mac_header_spec.specs.declared.SequenceNumber.TheVariants.{Absent, Number}
 use Rattle.ack_record_spec.specs.declared.Ack.{Ack}
-use Rattle.ack_read_spec.specs.declared.AckAnswer.{AckAnswer}
-use Rattle.ack_read_spec.specs.Read.{read_ack}
+use Rattle.ack_read_spec.specs.Read.{answer_of, read_ack}
 use Rattle.text_put_spec.specs.Text.{decimal}
 use Rattle.text_put_spec.specs.Part.{absent_name, newline, field, refused_text, PartPut}
 use Rattle.text_put_spec.proofs.PartLaws.{row, wider}
@@ -30,13 +33,13 @@ module _ (s t : List ℕ) (at r : ℕ) where
   unfolding sequence_text
   sequence_absent q e put = rw e (wider 10 24 at r s t _ (lit≤ tt) put)
 
-  pub sequence_number_lem : (q : SequenceNumber) (n : ℕ) → q ≡ Number n → PartPut 24 s at (field sequence_name n) t r → PartPut 24 s at (sequence_text q) t r
+  pub sequence_number_lem : (q : SequenceNumber) (n wide : ℕ) → q ≡ Number n → wide ≡ n → PartPut 24 s at (field sequence_name wide) t r → PartPut 24 s at (sequence_text q) t r
   unfolding sequence_text
-  sequence_number_lem q n e put = rw e put
+  sequence_number_lem q n wide e same put = rw (e, ← same) put
 
-  pub kind_short : (a : Address) (n : ℕ) → a ≡ Short n → PartPut 26 s at (field short_name n) t r → PartPut 29 s at (kind_text a) t r
+  pub kind_short : (a : Address) (n wide : ℕ) → a ≡ Short n → wide ≡ n → PartPut 26 s at (field short_name wide) t r → PartPut 29 s at (kind_text a) t r
   unfolding kind_text
-  kind_short a n e put = rw e (wider 26 29 at r s t _ (lit≤ tt) put)
+  kind_short a n wide e same put = rw (e, ← same) (wider 26 29 at r s t _ (lit≤ tt) put)
 
   pub kind_extended : (a : Address) (n : ℕ) → a ≡ Extended n → PartPut 29 s at (field extended_name n) t r → PartPut 29 s at (kind_text a) t r
   unfolding kind_text
@@ -62,15 +65,13 @@ module _ (at r size : ℕ) (s t : List ℕ) where
   above_text (pos n) h e put = wider 20 21 at r s t _ (lit≤ tt) (rw e at put)
   above_text (negsuc n) h e put = absurd (subst T h tt)
 
-  module _ (negative : Bool) (x y z : ℤ) (sign_is : negative ≡ lt_z x (pos 0)) (x_is : x ≡ z) (size_is : size ≡ nat_abs y) (y_is : y ≡ z) where
-    sign : lt_z z (pos 0) ≡ negative
-    sign = sym (sign_is ∙ ap (λ (v : ℤ). lt_z v (pos 0)) x_is)
+  -- the number is a widened one, of what was compared with 0
+  module _ (wide : ℕ) (x z : ℤ) (wide_is : wide ≡ size) (size_is : size ≡ nat_abs x) (x_is : x ≡ z) where
+    pub signed_below : lt_z x (pos 0) ≡ true → (a : ℕ) (u : List ℕ) → PartPut 1 s at minus u a → PartPut 20 u a (decimal wide) t r → PartPut 21 s at (signed z) t r
+    signed_below h a u first second = below_text z a u (rw x_is at h) (size_is ∙ ap nat_abs x_is) first (rw wide_is at second)
 
-    pub signed_below : negative ≡ true → (a : ℕ) (u : List ℕ) → PartPut 1 s at minus u a → PartPut 20 u a (decimal size) t r → PartPut 21 s at (signed z) t r
-    signed_below h a u = below_text z a u (sign ∙ h) (size_is ∙ ap nat_abs y_is)
-
-    pub signed_above : negative ≡ false → PartPut 20 s at (decimal size) t r → PartPut 21 s at (signed z) t r
-    signed_above h = above_text z (sign ∙ h) (size_is ∙ ap nat_abs y_is)
+    pub signed_above : lt_z x (pos 0) ≡ false → PartPut 20 s at (decimal wide) t r → PartPut 21 s at (signed z) t r
+    signed_above h put = above_text z (rw x_is at h) (size_is ∙ ap nat_abs x_is) (rw wide_is at put)
 
 -- ---- parts in a row
 module _ (s t u : List ℕ) (at a b : ℕ) where
@@ -83,9 +84,9 @@ module _ (s t u : List ℕ) (at a b : ℕ) where
   correction_put y z e first second = rw (← e) (row 12 21 at a b s t u correction_name (signed y) first second)
 
   module _ (v : List ℕ) (c : ℕ) where
-    pub addresses_put : (pan : ℕ) (destination source : Address) → PartPut 25 s at (field pan_name pan) t a → PartPut 42 t a (address_text destination_name destination) u b → PartPut 37 u b (address_text source_name source) v c → PartPut 104 s at (addresses_text pan destination source) v c
+    pub addresses_put : (pan wide : ℕ) (destination source : Address) → wide ≡ pan → PartPut 25 s at (field pan_name wide) t a → PartPut 42 t a (address_text destination_name destination) u b → PartPut 37 u b (address_text source_name source) v c → PartPut 104 s at (addresses_text pan destination source) v c
     unfolding addresses_text
-    addresses_put pan destination source first second third = row 25 79 at a c s t v _ _ first (row 42 37 a b c t u v _ _ second third)
+    addresses_put pan wide destination source same first second third = rw (← same) (row 25 79 at a c s t v _ _ first (row 42 37 a b c t u v _ _ second third))
 
     module _ (w : List ℕ) (d : ℕ) where
       pub ack_put : (y : Ack) (z : ℤ) → z ≡ y.correction → PartPut 24 s at (sequence_text y.sequence) t a → PartPut 104 t a (addresses_text y.pan y.destination y.source) u b → PartPut 33 u b (correction_text z) v c → PartPut 18 v c (acknowledged_text y.nack) w d → PartPut 179 s at (ack_text y) w d
@@ -93,20 +94,23 @@ module _ (s t u : List ℕ) (at a b : ℕ) where
       ack_put y z e first second third fourth = rw (← e) (row 24 155 at a d s t w _ _ first (row 104 51 a b d t u w _ _ second (row 33 18 b c d u v w _ _ third fourth)))
 
 -- ---- the line
-module _ (s : List ℕ) (a : AckAnswer) (e : a ≡ read_ack s) where
-  pub line_refused : (a.number ≡ 0 → ⊥) → refused_text a.number ≡ ack_line_of (read_ack s)
-  unfolding ack_line_of
-  line_refused bad = rw (← e) (if_ne_lem _ _ _ _ bad refl)
+module _ (frame s t : List ℕ) (at r : ℕ) where
+  module _ (x : Result Ack Refusal) (read : answer_of x ≡ read_ack frame) where
+    pub line_refused : (refusal : Refusal) (number : ℕ) → x ≡ Err refusal → number ≡ number_of refusal → PartPut 29 s at (refused_text number) t r → PartPut 179 s at (ack_line_of (read_ack frame)) t r
+    unfolding ack_line_of
+    line_refused refusal number e is put =
+        let answer : answer_of (Err refusal) ≡ read_ack frame = rw e at read in
+        let line : refused_text number ≡ ack_line_of (read_ack frame) = rw (is, ← answer) (if_ne_lem _ _ _ _ (number_some refusal) refl) in
+        rw (← line) (wider 29 179 at r s t _ (lit≤ tt) put)
 
-  pub line_accepted : a.number ≡ 0 → ack_text a.ack ≡ ack_line_of (read_ack s)
-  unfolding ack_line_of
-  line_accepted good = rw (← e) (if_eq_lem _ _ _ _ good refl)
+    pub line_accepted : (y : Ack) → x ≡ Ok y → PartPut 179 s at (ack_text y) t r → PartPut 179 s at (ack_line_of (read_ack frame)) t r
+    unfolding ack_line_of if_eq
+    line_accepted y e put =
+        let answer : answer_of (Ok y) ≡ read_ack frame = rw e at read in
+        rw (← answer) put
 
 -- every line has room
-pub refused_room : 29 ≤ 192
-refused_room = lit≤ tt
+pub line_room : 179 ≤ 192
+line_room = lit≤ tt
 
-pub accepted_room : 179 ≤ 192
-accepted_room = lit≤ tt
-
-pub ruleset ackLines = (signed_below, signed_above, sequence_absent, sequence_number_lem, kind_short, kind_extended, acknowledged_no, acknowledged_yes, address_put, correction_put, addresses_put, ack_put, line_refused, line_accepted, refused_room, accepted_room)
+pub ruleset ackLines = (signed_below, signed_above, sequence_absent, sequence_number_lem, kind_short, kind_extended, acknowledged_no, acknowledged_yes, address_put, correction_put, addresses_put, ack_put, line_refused, line_accepted, line_room)

@@ -8,7 +8,7 @@ use Rattle.mac_header_spec.specs.declared.Address.TheVariants.{Short, Extended}
 use Rattle.mac_header_spec.specs.declared.SequenceNumber.{SequenceNumber}
 use Rattle.mac_header_spec.specs.declared.SequenceNumber.TheVariants.{Absent, Number}
 use Rattle.ack_record_spec.specs.declared.Ack.{Ack}
-use Rattle.ack_read_spec.specs.declared.AckAnswer.{AckAnswer}
+use Rattle.ack_read_spec.specs.Read.{AckAnswer}
 use Rattle.ack_read_spec.specs.Read.{read_ack}
 use Rattle.text_put_spec.specs.Text.{decimal}
 use Rattle.text_put_spec.specs.Part.{absent_name, newline, field, refused_text, line_in}

@@ -1,64 +1,64 @@
 // The text that a comparison of two beacons is printed as, put into a lent buffer: a line for each field that differs, or the line of a refusal.
 #![tactic(auto)]
 
-ghost use Rattle.std.specs.Prelude.{◌≡◌, min, length, take};
+ghost use Rattle.std.specs.Prelude.{◌≡◌, ◌*◌, length};
 ghost use Rattle.io.specs.Counts.{IsPrefixLen};
-ghost use Rattle.text_put_spec.specs.Part.{starts_with, PartPut};
-ghost use Rattle.text_compare_spec.specs.CompareText.{side_text, line_text, lines_text, refused_text, compare_text_for};
+ghost use Rattle.text_put.specs.Puts.{Puts};
+ghost use Rattle.text_put_spec.specs.Part.{starts_with};
+ghost use Rattle.eb_read_spec.specs.Read.{read_frame};
+ghost use Rattle.compare_spec.specs.Compare.{compared};
+ghost use Rattle.text_compare_spec.specs.CompareText.{side_text, line_text, lines_text, refused_text, compared_text, compare_text_for};
 
-use compare_spec::{Difference, Differences};
+use compare_spec::{Difference, Refused};
 use eb_fields_spec::Content;
+use text_put::Line;
 
 // The least buffer that gets a text: 149 bytes for each of 77 lines.
 pub const ROOM: usize = 11473;
 
-// How many entries are shown of so many, of which 77 are at hand.
-fn shown(count: usize) -> usize
-    ensures { result ≡ min count 77 }
+// Each of these puts a part into a line.
+fn put_side(line: &mut Line, content: &Content)
+    ensures { Puts 54 line.old (side_text content.now) line.new }
 {
-    if count < eb_fields_spec::FIELDS {
-        return count;
+    line.text(b" ");
+    text_fields::put_content(line, content);
+}
+
+fn put_line(line: &mut Line, difference: &Difference)
+    ensures { Puts 149 line.old (line_text difference.now) line.new }
+{
+    text_fields::put_name(line, difference.place);
+    put_side(line, &difference.first);
+    put_side(line, &difference.second);
+    line.text(b"\n");
+}
+
+fn put_refused(line: &mut Line, first: u8, second: u8)
+    ensures { Puts 50 line.old (refused_text first second) line.new }
+{
+    line.field(b"refused ", u64::from(first));
+    line.field(b" ", u64::from(second));
+    line.text(b"\n");
+}
+
+fn put_lines(line: &mut Line, list: &[Difference])
+    ensures { Puts (149 * length list.now) line.old (lines_text list.now) line.new }
+{
+    for difference in list {
+        put_line(line, difference);
     }
-    eb_fields_spec::FIELDS
 }
 
-// Each of these puts a part of the text from an offset on, and answers the offset behind it.
-fn put_side(buffer: &mut [u8], at: usize, content: Content) -> usize
-    ensures { PartPut 54 buffer.old at (side_text content) buffer.new result }
+// What the comparison of two frames comes to.
+fn put_compared(line: &mut Line, first: &[u8], second: &[u8])
+    ensures { Puts 11473 line.old (compared_text (compared (read_frame first.now) (read_frame second.now))) line.new }
 {
-    let next = text_put::text(buffer, at, b" ");
-    text_fields::put_content(buffer, next, content)
-}
-
-fn put_line(buffer: &mut [u8], at: usize, difference: Difference) -> usize
-    ensures { PartPut 149 buffer.old at (line_text difference) buffer.new result }
-{
-    let next = text_fields::put_name(buffer, at, difference.place);
-    let behind = put_side(buffer, next, difference.first);
-    let last = put_side(buffer, behind, difference.second);
-    text_put::text(buffer, last, b"\n")
-}
-
-fn put_refused(buffer: &mut [u8], at: usize, first: u8, second: u8) -> usize
-    ensures { PartPut 50 buffer.old at (refused_text first second) buffer.new result }
-{
-    let next = text_put::field(buffer, at, b"refused ", first as u64);
-    let last = text_put::field(buffer, next, b" ", second as u64);
-    text_put::text(buffer, last, b"\n")
-}
-
-// The lines of a list, from the start of the buffer on.
-fn put_lines(buffer: &mut [u8], list: Differences) -> usize
-    ensures { PartPut 11473 buffer.old 0 (lines_text (take list.count list.entries)) buffer.new result }
-{
-    let count = shown(list.count);
-    let mut next = 0;
-    let mut i = 0;
-    while i < count {
-        next = put_line(buffer, next, list.entries[i]);
-        i += 1;
+    match compare_frames::compare(first, second) {
+        Ok(list) => put_lines(line, list.as_slice()),
+        Err(Refused::First(first)) => put_refused(line, first.number(), refusal::DONE),
+        Err(Refused::Second(second)) => put_refused(line, refusal::DONE, second.number()),
+        Err(Refused::Both(first, second)) => put_refused(line, first.number(), second.number()),
     }
-    next
 }
 
 // Reads two frames, puts what their comparison comes to at the start of the buffer, and answers how many bytes that has: none if the records
@@ -71,10 +71,7 @@ pub fn compare_text(first: &[u8], second: &[u8], buffer: &mut [u8]) -> usize
     if buffer.len() < ROOM {
         return 0;
     }
-    let comparison = compare_frames::compare(first, second);
-    let list = comparison.differences;
-    if list.listed {
-        return put_lines(buffer, list);
-    }
-    put_refused(buffer, 0, comparison.first, comparison.second)
+    let mut line = Line { buffer, end: 0 };
+    put_compared(&mut line, first, second);
+    line.end
 }

@@ -5,8 +5,7 @@ use Rattle.eb_read_spec.specs.Read.{read_frame}
 use Rattle.eb_fields_spec.specs.declared.Content.{Content}
 use Rattle.eb_fields_spec.specs.Fields.{name_at}
 use Rattle.compare_spec.specs.declared.Difference.{Difference}
-use Rattle.compare_spec.specs.declared.Comparison.{Comparison}
-use Rattle.compare_spec.specs.Compare.{compared}
+use Rattle.compare_spec.specs.Compare.{Comparison, compared}
 use Rattle.text_put_spec.specs.Part.{newline, refused_name, field, line_in}
 use Rattle.text_fields_spec.specs.ContentText.{content_text}
 

@@ -14,7 +14,7 @@ use Rattle.text_put_spec.proofs.PartLaws.{row, wider, nothing_put}
 use Rattle.text_put_spec.specs.Text.{decimal}
 use Rattle.eb_fields_spec.specs.Names.{hopping_name, link_name, link_timeslot_name, link_offset_name, link_options_name, link_field_name}
 use Rattle.eb_fields_spec.specs.Fields.{Field, no_field, header_fields, synchronization_fields, timing_names, timing_fields, link_fields, slotframe_fields, joining_fields, name_in, name_at}
-use Rattle.eb_fields_spec.proofs.PlaceLaws.{from_2, from_3, from_7, from_12, three_on, of_header, of_synchronization, of_timeslot, of_hopping, of_slotframe, of_joining, link_at_lem, link_row_lem}
+use Rattle.eb_fields_spec.proofs.PlaceLaws.{from_2, from_3, from_7, from_12, three_on, of_header, of_synchronization, of_timeslot, of_hopping, of_slotframe, of_joining, link_at_lem, row_of_link}
 use Rattle.text_fields.specs.Part.{header_name, synchronization_name, timing_name, timeslot_name, part_name, links_name, slotframe_name, joining_name}
 
 abbrev name_of : Field → List ℕ
@@ -70,7 +70,7 @@ module _ (s t : List ℕ) (at r i : ℕ) where
   third_part not_0 not_1 put = let is : link_options_name ≡ part_name i = if_ne_lem _ _ i 0 not_0 (if_ne_lem _ _ i 1 not_1 refl) in rw (← is) (wider 8 15 at r s t _ (lit≤ tt) put)
 
 -- ---- the name of a link's number
-part_name_lem : (place part : ℕ) → part < 3 → (link_row_lem blank_beacon.slotframe place part).name ≡ link_field_name place (part_name part)
+part_name_lem : (place part : ℕ) → part < 3 → (row_of_link blank_beacon.slotframe place part).name ≡ link_field_name place (part_name part)
 unfolding part_name if_eq
 part_name_lem place zero h = refl
 part_name_lem place (suc zero) h = refl
@@ -85,8 +85,8 @@ module _ (s : List ℕ) (at i place : ℕ) (place_is : place ≡ i / 3) where
   pub link_named : (t u : List ℕ) (a b : ℕ) → place < 16 → PartPut 25 s at (field link_name place) t a → PartPut 15 t a (part_name (i % 3)) u b → PartPut 40 s at (links_name i) u b
   unfolding links_name link_field_name field
   link_named t u a b h first second =
-      let there : links_name i ≡ (link_row_lem blank_beacon.slotframe (0 + i / 3) (i % 3)).name = ap name_of (link_at_lem blank_beacon.slotframe 0 16 i (omega (arith, h, place_is))) in
-      let at_place : links_name i ≡ (link_row_lem blank_beacon.slotframe place (i % 3)).name = rw (zero-add (i / 3), ← place_is) at there in
+      let there : links_name i ≡ (row_of_link blank_beacon.slotframe (0 + i / 3) (i % 3)).name = ap name_of (link_at_lem blank_beacon.slotframe 0 16 i (omega (arith, h, place_is))) in
+      let at_place : links_name i ≡ (row_of_link blank_beacon.slotframe place (i % 3)).name = rw (zero-add (i / 3), ← place_is) at there in
       let whole : links_name i ≡ (link_name ++ decimal place) ++ part_name (i % 3) = at_place ∙ part_name_lem place (i % 3) (omega arith) ∙ sym (append_assoc link_name (decimal place) (part_name (i % 3))) in
       rw whole (row 25 15 at a b s t u _ _ first second)
 

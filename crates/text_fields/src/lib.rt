@@ -2,172 +2,167 @@
 #![tactic(auto)]
 
 ghost use Rattle.std.specs.Prelude.{◌≡◌, min};
-ghost use Rattle.text_put_spec.specs.Part.{PartPut};
+ghost use Rattle.text_put.specs.Puts.{Puts};
 ghost use Rattle.eb_fields_spec.specs.Fields.{name_at};
 ghost use Rattle.text_fields_spec.specs.ContentText.{octets_text, content_text};
 ghost use Rattle.text_fields.specs.Part.{header_name, synchronization_name, timing_name, timeslot_name, part_name, links_name, slotframe_name, joining_name};
 
 use eb_fields_spec::Content;
+use text_put::Line;
 
 // How many octets are shown of so many, of which sixteen are at hand.
 fn shown(length: u32) -> usize
     ensures { result ≡ min length 16 }
 {
-    if length < 16 {
-        return length as usize;
-    }
-    16
+    length.min(16) as usize
 }
 
-// Each of these puts a part of a line from an offset on, and answers the offset behind it.
-fn put_octets(buffer: &mut [u8], at: usize, length: u32, octets: [u8; 16]) -> usize
-    ensures { PartPut 53 buffer.old at (octets_text length octets) buffer.new result }
+// Each of these puts a part into a line.
+fn put_octets(line: &mut Line, length: u32, octets: &[u8; 16])
+    ensures { Puts 53 line.old (octets_text length octets.now) line.new }
 {
     let count = shown(length);
-    let next = text_put::decimal(buffer, at, length as u64);
-    let behind = text_put::text(buffer, next, b":");
-    text_put::octets(buffer, behind, &octets[..count])
+    line.decimal(length as u64);
+    line.text(b":");
+    line.octets(&octets[..count]);
 }
 
 // The content of a field.
-pub fn put_content(buffer: &mut [u8], at: usize, content: Content) -> usize
-    ensures { PartPut 53 buffer.old at (content_text content) buffer.new result }
+pub fn put_content(line: &mut Line, content: &Content)
+    ensures { Puts 53 line.old (content_text content.now) line.new }
 {
-    if content.kind == eb_fields_spec::ABSENT {
-        return text_put::text(buffer, at, b"absent");
+    match content.kind {
+        eb_fields_spec::ABSENT => line.text(b"absent"),
+        eb_fields_spec::NUMBER => line.decimal(content.number),
+        eb_fields_spec::SHORT => {
+            line.text(b"short:");
+            line.hex(content.number, 4);
+        }
+        eb_fields_spec::EXTENDED => {
+            line.text(b"extended:");
+            line.hex(content.number, 16);
+        }
+        _ => put_octets(line, content.length, &content.octets),
     }
-    if content.kind == eb_fields_spec::NUMBER {
-        return text_put::decimal(buffer, at, content.number);
-    }
-    if content.kind == eb_fields_spec::SHORT {
-        let next = text_put::text(buffer, at, b"short:");
-        return text_put::hex(buffer, next, content.number, 4);
-    }
-    if content.kind == eb_fields_spec::EXTENDED {
-        let next = text_put::text(buffer, at, b"extended:");
-        return text_put::hex(buffer, next, content.number, 16);
-    }
-    let octets = content.octets;
-    put_octets(buffer, at, content.length, octets)
 }
 
 // The names of the fields of one element, by their places in it; nothing behind the last.
-fn put_header_name(buffer: &mut [u8], at: usize, place: usize) -> usize
-    ensures { PartPut 40 buffer.old at (header_name place) buffer.new result }
+fn put_header_name(line: &mut Line, place: usize)
+    ensures { Puts 40 line.old (header_name place) line.new }
 {
     match place {
-        0 => text_put::text(buffer, at, b"sequence-number"),
-        1 => text_put::text(buffer, at, b"pan-id"),
-        2 => text_put::text(buffer, at, b"source"),
-        _ => at,
+        0 => line.text(b"sequence-number"),
+        1 => line.text(b"pan-id"),
+        2 => line.text(b"source"),
+        _ => {}
     }
 }
 
-fn put_synchronization_name(buffer: &mut [u8], at: usize, place: usize) -> usize
-    ensures { PartPut 40 buffer.old at (synchronization_name place) buffer.new result }
+fn put_synchronization_name(line: &mut Line, place: usize)
+    ensures { Puts 40 line.old (synchronization_name place) line.new }
 {
     match place {
-        0 => text_put::text(buffer, at, b"asn"),
-        1 => text_put::text(buffer, at, b"join-metric"),
-        _ => at,
+        0 => line.text(b"asn"),
+        1 => line.text(b"join-metric"),
+        _ => {}
     }
 }
 
-fn put_timing_name(buffer: &mut [u8], at: usize, place: usize) -> usize
-    ensures { PartPut 40 buffer.old at (timing_name place) buffer.new result }
+fn put_timing_name(line: &mut Line, place: usize)
+    ensures { Puts 40 line.old (timing_name place) line.new }
 {
     match place {
-        0 => text_put::text(buffer, at, b"timing-cca-offset"),
-        1 => text_put::text(buffer, at, b"timing-cca"),
-        2 => text_put::text(buffer, at, b"timing-tx-offset"),
-        3 => text_put::text(buffer, at, b"timing-rx-offset"),
-        4 => text_put::text(buffer, at, b"timing-rx-ack-delay"),
-        5 => text_put::text(buffer, at, b"timing-tx-ack-delay"),
-        6 => text_put::text(buffer, at, b"timing-rx-wait"),
-        7 => text_put::text(buffer, at, b"timing-ack-wait"),
-        8 => text_put::text(buffer, at, b"timing-rx-tx"),
-        9 => text_put::text(buffer, at, b"timing-max-ack"),
-        10 => text_put::text(buffer, at, b"timing-max-tx"),
-        11 => text_put::text(buffer, at, b"timing-timeslot-length"),
-        _ => at,
+        0 => line.text(b"timing-cca-offset"),
+        1 => line.text(b"timing-cca"),
+        2 => line.text(b"timing-tx-offset"),
+        3 => line.text(b"timing-rx-offset"),
+        4 => line.text(b"timing-rx-ack-delay"),
+        5 => line.text(b"timing-tx-ack-delay"),
+        6 => line.text(b"timing-rx-wait"),
+        7 => line.text(b"timing-ack-wait"),
+        8 => line.text(b"timing-rx-tx"),
+        9 => line.text(b"timing-max-ack"),
+        10 => line.text(b"timing-max-tx"),
+        11 => line.text(b"timing-timeslot-length"),
+        _ => {}
     }
 }
 
-fn put_timeslot_name(buffer: &mut [u8], at: usize, place: usize) -> usize
-    ensures { PartPut 40 buffer.old at (timeslot_name place) buffer.new result }
+fn put_timeslot_name(line: &mut Line, place: usize)
+    ensures { Puts 40 line.old (timeslot_name place) line.new }
 {
     if place == 0 {
-        return text_put::text(buffer, at, b"template-id");
+        return line.text(b"template-id");
     }
-    put_timing_name(buffer, at, place - 1)
+    put_timing_name(line, place - 1)
 }
 
 // The name of a number of a link, behind the link's place.
-fn put_part_name(buffer: &mut [u8], at: usize, part: usize) -> usize
-    ensures { PartPut 15 buffer.old at (part_name part) buffer.new result }
+fn put_part_name(line: &mut Line, part: usize)
+    ensures { Puts 15 line.old (part_name part) line.new }
 {
     match part {
-        0 => text_put::text(buffer, at, b"-timeslot"),
-        1 => text_put::text(buffer, at, b"-channel-offset"),
-        _ => text_put::text(buffer, at, b"-options"),
+        0 => line.text(b"-timeslot"),
+        1 => line.text(b"-channel-offset"),
+        _ => line.text(b"-options"),
     }
 }
 
-fn put_link_name(buffer: &mut [u8], at: usize, place: usize) -> usize
-    ensures { PartPut 40 buffer.old at (links_name place) buffer.new result }
+fn put_link_name(line: &mut Line, place: usize)
+    ensures { Puts 40 line.old (links_name place) line.new }
 {
     let link = place / 3;
     if link >= 16 {
-        return at;
+        return;
     }
-    let next = text_put::field(buffer, at, b"link-", link as u64);
-    put_part_name(buffer, next, place % 3)
+    line.field(b"link-", link as u64);
+    put_part_name(line, place % 3)
 }
 
-fn put_slotframe_name(buffer: &mut [u8], at: usize, place: usize) -> usize
-    ensures { PartPut 40 buffer.old at (slotframe_name place) buffer.new result }
+fn put_slotframe_name(line: &mut Line, place: usize)
+    ensures { Puts 40 line.old (slotframe_name place) line.new }
 {
     match place {
-        0 => text_put::text(buffer, at, b"slotframe-handle"),
-        1 => text_put::text(buffer, at, b"slotframe-size"),
-        2 => text_put::text(buffer, at, b"link-count"),
-        _ => put_link_name(buffer, at, place - 3),
+        0 => line.text(b"slotframe-handle"),
+        1 => line.text(b"slotframe-size"),
+        2 => line.text(b"link-count"),
+        _ => put_link_name(line, place - 3),
     }
 }
 
-fn put_joining_name(buffer: &mut [u8], at: usize, place: usize) -> usize
-    ensures { PartPut 40 buffer.old at (joining_name place) buffer.new result }
+fn put_joining_name(line: &mut Line, place: usize)
+    ensures { Puts 40 line.old (joining_name place) line.new }
 {
     match place {
-        0 => text_put::text(buffer, at, b"joining-r"),
-        1 => text_put::text(buffer, at, b"joining-p"),
-        2 => text_put::text(buffer, at, b"proxy-priority"),
-        3 => text_put::text(buffer, at, b"rank-priority"),
-        4 => text_put::text(buffer, at, b"pan-priority"),
-        5 => text_put::text(buffer, at, b"proxy-address"),
-        6 => text_put::text(buffer, at, b"network-id"),
-        _ => at,
+        0 => line.text(b"joining-r"),
+        1 => line.text(b"joining-p"),
+        2 => line.text(b"proxy-priority"),
+        3 => line.text(b"rank-priority"),
+        4 => line.text(b"pan-priority"),
+        5 => line.text(b"proxy-address"),
+        6 => line.text(b"network-id"),
+        _ => {}
     }
 }
 
 // The name of the field at a place of the list of fields; nothing behind the last.
-pub fn put_name(buffer: &mut [u8], at: usize, place: usize) -> usize
-    ensures { PartPut 40 buffer.old at (name_at place) buffer.new result }
+pub fn put_name(line: &mut Line, place: usize)
+    ensures { Puts 40 line.old (name_at place) line.new }
 {
     if place < eb_fields_spec::SYNCHRONIZATION {
-        return put_header_name(buffer, at, place);
+        return put_header_name(line, place);
     }
     if place < eb_fields_spec::TIMESLOT {
-        return put_synchronization_name(buffer, at, place - eb_fields_spec::SYNCHRONIZATION);
+        return put_synchronization_name(line, place - eb_fields_spec::SYNCHRONIZATION);
     }
     if place < eb_fields_spec::HOPPING {
-        return put_timeslot_name(buffer, at, place - eb_fields_spec::TIMESLOT);
+        return put_timeslot_name(line, place - eb_fields_spec::TIMESLOT);
     }
     if place < eb_fields_spec::SLOTFRAME {
-        return text_put::text(buffer, at, b"hopping-sequence-id");
+        return line.text(b"hopping-sequence-id");
     }
     if place < eb_fields_spec::JOINING {
-        return put_slotframe_name(buffer, at, place - eb_fields_spec::SLOTFRAME);
+        return put_slotframe_name(line, place - eb_fields_spec::SLOTFRAME);
     }
-    put_joining_name(buffer, at, place - eb_fields_spec::JOINING)
+    put_joining_name(line, place - eb_fields_spec::JOINING)
 }

@@ -4,38 +4,52 @@
 
 ghost use Rattle.std.specs.Prelude.{◌≡◌, length};
 ghost use Rattle.io.specs.Counts.{IsPrefixLen};
-ghost use Rattle.text_put_spec.specs.Part.{starts_with, PartPut};
-ghost use Rattle.text_line_spec.specs.Line.{synchronization_text, slotframe_text, accepted_text, line_for};
+ghost use Rattle.text_put.specs.Puts.{Puts};
+ghost use Rattle.text_put_spec.specs.Part.{starts_with};
+ghost use Rattle.text_line_spec.specs.Line.{synchronization_text, slotframe_text, accepted_text, line_of, line_for};
+ghost use Rattle.eb_read_spec.specs.Read.{read_frame};
+
+use eb_record_spec::Beacon;
+use text_put::Line;
 
 // The least buffer that gets a line.
 pub const ROOM: usize = 128;
 
-// Each of these puts a part of the line from an offset on, and answers the offset behind it.
-fn put_synchronization(buffer: &mut [u8], at: usize, asn: u64, metric: u8) -> usize
-    ensures { PartPut 52 buffer.old at (synchronization_text asn metric) buffer.new result }
+// Each of these puts a part into a line.
+fn put_synchronization(line: &mut Line, asn: u64, metric: u8)
+    ensures { Puts 52 line.old (synchronization_text asn metric) line.new }
 {
-    let next = text_put::field(buffer, at, b"asn ", asn);
-    text_put::field(buffer, next, b" metric ", metric as u64)
+    line.field(b"asn ", asn);
+    line.field(b" metric ", u64::from(metric));
 }
 
-fn put_slotframe(buffer: &mut [u8], at: usize, size: u16, links: u16) -> usize
-    ensures { PartPut 54 buffer.old at (slotframe_text size links) buffer.new result }
+fn put_slotframe(line: &mut Line, size: u16, links: u16)
+    ensures { Puts 54 line.old (slotframe_text size links) line.new }
 {
-    let next = text_put::field(buffer, at, b" size ", size as u64);
-    let last = text_put::field(buffer, next, b" links ", links as u64);
-    text_put::text(buffer, last, b"\n")
+    line.field(b" size ", u64::from(size));
+    line.field(b" links ", u64::from(links));
+    line.text(b"\n");
 }
 
-fn put_accepted(buffer: &mut [u8], at: usize, beacon: eb_record_spec::Beacon) -> usize
-    ensures { PartPut 106 buffer.old at (accepted_text beacon) buffer.new result }
+fn put_accepted(line: &mut Line, beacon: &Beacon)
+    ensures { Puts 106 line.old (accepted_text beacon.now) line.new }
 {
-    let next = put_synchronization(
-        buffer,
-        at,
+    put_synchronization(
+        line,
         beacon.synchronization.asn,
         beacon.synchronization.metric,
     );
-    put_slotframe(buffer, next, beacon.slotframe.size, beacon.slotframe.count)
+    put_slotframe(line, beacon.slotframe.size, beacon.slotframe.count);
+}
+
+// The line of a frame's reading.
+fn put_line(line: &mut Line, s: &[u8])
+    ensures { Puts 106 line.old (line_of (read_frame s.now)) line.new }
+{
+    match eb_read::read(s) {
+        Ok(beacon) => put_accepted(line, &beacon),
+        Err(refusal) => line.refused(refusal.number()),
+    }
 }
 
 // Reads a frame, puts its line at the start of the buffer, and answers how many bytes the line has. A buffer of under 128 bytes is left as
@@ -48,9 +62,7 @@ pub fn bench_line(s: &[u8], buffer: &mut [u8]) -> usize
     if buffer.len() < ROOM {
         return 0;
     }
-    let answer = eb_read::read(s);
-    if answer.number != refusal::DONE {
-        return text_put::refused(buffer, 0, answer.number);
-    }
-    put_accepted(buffer, 0, answer.beacon)
+    let mut line = Line { buffer, end: 0 };
+    put_line(&mut line, s);
+    line.end
 }

@@ -3,8 +3,7 @@ use Rattle.std.specs.Prelude.{ℕ, List, [], ◌∷◌, ◌++◌}
 use Rattle.octets_spec.specs.Choice.{if_eq}
 use Rattle.refusal.specs.Refusal.{done}
 use Rattle.eb_record_spec.specs.declared.Beacon.{Beacon}
-use Rattle.eb_read_spec.specs.declared.ReadAnswer.{ReadAnswer}
-use Rattle.eb_read_spec.specs.Read.{read_frame}
+use Rattle.eb_read_spec.specs.Read.{ReadAnswer, read_frame}
 use Rattle.text_put_spec.specs.Part.{newline, field, refused_text, line_in}
 
 -- `asn `

@@ -4,7 +4,12 @@
 
 ghost use Rattle.std.specs.Prelude.{◌≤◌};
 
-use nbr_table_spec::Table;
+use eb_record_spec::TimeslotTemplate;
+use nbr_calls::advertise::advertise;
+use nbr_calls::report::report;
+use nbr_metric_spec::Place;
+use nbr_table_spec::{Evaluation, Table};
+use refusal::Refusal;
 
 // The last ASN: an ASN has five bytes.
 const LAST_ASN: u64 = 0xFF_FFFF_FFFF;
@@ -34,69 +39,57 @@ fn put(rt: &impl Print, number: u64, end: u8) {
 
 fn channel(rt: &impl Print, asn: u64, channel_offset: u16) {
     put(rt, asn, b' ');
-    put(rt, channel_offset as u64, b' ');
-    put(rt, hopping::channel(asn, channel_offset) as u64, b'\n');
+    put(rt, u64::from(channel_offset), b' ');
+    put(rt, u64::from(hopping::channel(asn, channel_offset)), b'\n');
 }
 
-// A tag at some rank: its join metric, and the own rank of a child that has it as its parent, with 75 of 100 frames acknowledged.
+// A tag at some rank: its join metric's number and the metric, 0 where it has none, and the own rank of a child that has it as its parent, with 75
+// of 100 frames acknowledged.
 fn hop(rt: &impl Print, rank: u16) -> u16 {
-    let metric = nbr_metric::join_metric::join_metric(rank as u32);
-    let mut places = [nbr_metric_spec::blank(); 32];
-    places[0] = nbr_metric_spec::Place {
+    let metric = nbr_metric::join_metric::join_metric(u32::from(rank));
+    let mut table = nbr_table_spec::empty();
+    table.places[0] = Place {
         id: 1,
         rank,
         attempts: 100,
         acked: 75,
         used: true,
     };
-    let evaluated = nbr_calls::evaluate::evaluate(nbr_table_spec::Table {
-        places,
-        parent: nbr_table_spec::Parent::None,
-    });
-    put(rt, rank as u64, b' ');
-    put(rt, metric.number as u64, b' ');
-    put(rt, metric.metric as u64, b' ');
-    put(rt, evaluated.rank as u64, b'\n');
-    evaluated.rank
+    let own = match nbr_calls::evaluate::evaluate(table) {
+        Ok(evaluated) => evaluated.rank,
+        Err(_) => nbr_metric_spec::INFINITE_RANK,
+    };
+    put(rt, u64::from(rank), b' ');
+    put(rt, u64::from(refusal::number_in(metric)), b' ');
+    put(rt, u64::from(metric.unwrap_or(0)), b' ');
+    put(rt, u64::from(own), b'\n');
+    own
 }
 
 // Evaluates a table: the number, the own rank, 1 if a parent is held, and its identifier.
 fn evaluated(rt: &impl Print, table: Table) -> Table {
     let evaluation = nbr_calls::evaluate::evaluate(table);
-    let after = evaluation.table;
-    put(rt, evaluation.number as u64, b' ');
-    put(rt, evaluation.rank as u64, b' ');
-    put(
-        rt,
-        if nbr_parent::held_parent::mark_of(after.parent) {
-            1
-        } else {
-            0
-        },
-        b' ',
-    );
-    put(rt, nbr_parent::held_parent::id_of(after.parent), b'\n');
+    let (after, rank) = match evaluation {
+        Ok(Evaluation { table, rank }) => (table, rank),
+        Err(_) => (table, nbr_metric_spec::INFINITE_RANK),
+    };
+    put(rt, u64::from(refusal::number_in(evaluation)), b' ');
+    put(rt, u64::from(rank), b' ');
+    put(rt, u64::from(after.parent.is_some()), b' ');
+    put(rt, after.parent.unwrap_or(0), b'\n');
     after
 }
 
 // A fresh tag joins through the first neighbour, measures it, and keeps it against the second, which is fresh. It changes when the
 // first gets worse, to 2 of 5, and changes back when the first attempt at the second fails.
-fn fresh_tag(rt: &impl Print) {
+fn fresh_tag(rt: &impl Print) -> Result<(), Refusal> {
     let start = evaluated(rt, nbr_table_spec::empty());
-    let joined = evaluated(
-        rt,
-        nbr_calls::advertise::advertise(start, FIRST, FIRST_RANK).table,
-    );
-    let measured = evaluated(rt, nbr_calls::report::report(joined, FIRST, 1, true).table);
-    let kept = evaluated(
-        rt,
-        nbr_calls::advertise::advertise(measured, SECOND, SECOND_RANK).table,
-    );
-    let changed = evaluated(rt, nbr_calls::report::report(kept, FIRST, 4, true).table);
-    evaluated(
-        rt,
-        nbr_calls::report::report(changed, SECOND, 1, false).table,
-    );
+    let joined = evaluated(rt, advertise(start, FIRST, FIRST_RANK)?);
+    let measured = evaluated(rt, report(joined, FIRST, 1, true)?);
+    let kept = evaluated(rt, advertise(measured, SECOND, SECOND_RANK)?);
+    let changed = evaluated(rt, report(kept, FIRST, 4, true)?);
+    evaluated(rt, report(changed, SECOND, 1, false)?);
+    Ok(())
 }
 
 // Reads a frame: its length and its line.
@@ -108,9 +101,9 @@ fn frame(rt: &impl Print, s: &[u8]) {
 }
 
 // The ID of a timeslot template, and the length of a timeslot, which is its last timing.
-fn template(rt: &impl Print, id: u8, timings: [u32; 12]) {
-    put(rt, id as u64, b' ');
-    put(rt, timings[11] as u64, b'\n');
+fn template(rt: &impl Print, template: TimeslotTemplate) {
+    put(rt, u64::from(template.id), b' ');
+    put(rt, u64::from(template.timings[11]), b'\n');
 }
 
 // The first bytes of a beacon of 38, laid out field by field in docs/RULES.md.
@@ -129,9 +122,10 @@ fn published_timings(rt: &impl Print, group: u8) {
         *b"\x40\xAB\x34\x12\xFF\xFF\x07\x00\x00\x3F\x1A\x88\x06\x1A\x05\x04\x03\x02\x01\x00\x19\x1C\x01\x8C\x0A\x80\x00\x6C\x0C\x90\x06\xB0\x04\xDC\x05\xE4\x0C\x58\x02\xC0\x00\x60\x09\xA0\x10\x98\x3A\x01\xC8\x00\x0A\x1B\x01\x00\x65\x00\x01\x00\x00\x00\x00\x0F";
     s[10] = group;
     frame(rt, &s);
-    let answer = eb_read::read(&s);
-    let timings = answer.beacon.timeslot.timings;
-    template(rt, answer.beacon.timeslot.id, timings);
+    match eb_read::read(&s) {
+        Ok(beacon) => template(rt, beacon.timeslot),
+        Err(_) => template(rt, TimeslotTemplate::default()),
+    }
 }
 
 // RFC 8180, appendix A.3: the element of the correction, whose two bytes of content the RFC leaves open, behind the fields of the
@@ -160,7 +154,9 @@ fn main(rt: HostRuntime) {
         rt,
         b"a fresh tag, its evaluations: number, own rank, whether a parent is held, its identifier; it joins, measures, keeps, changes and changes back\n",
     );
-    fresh_tag(rt);
+    if let Err(refusal) = fresh_tag(rt) {
+        put(rt, u64::from(refusal.number()), b'\n');
+    }
     say(
         rt,
         b"beacon of 38 bytes and cuts of it, zeros, RFC 8180 A.1, A.2 as printed, A.2 with a group of 50 bytes: length and line, for A.2 the template's ID and the timeslot's length\n",

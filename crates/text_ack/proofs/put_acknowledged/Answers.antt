@@ -6,5 +6,5 @@ use Rattle.text_ack.proofs.put_acknowledged.Goals as goal
 pub returns-then-nack : goal.returns-then-nack
 returns-then-nack c = search (rules, ackLines)
 
-pub returns : goal.returns
-returns c = search (rules, ackLines)
+pub returns-else-nack : goal.returns-else-nack
+returns-else-nack c = search (rules, ackLines)

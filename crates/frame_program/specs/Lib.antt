@@ -1,2 +1,0 @@
--- What the contracts of the programs' library cite. Assumes nothing.
-pub mod Counts
