@@ -1,7 +1,8 @@
 //! The documents against the code: what they name is there, and what is there they name.
 
-use std::collections::BTreeSet;
+use std::collections::{BTreeMap, BTreeSet};
 use std::fs;
+use std::ops::Range;
 use std::path::{Path, PathBuf};
 
 fn root() -> PathBuf {
@@ -59,16 +60,25 @@ fn quoted(text: &str) -> BTreeSet<&str> {
 
 /// Whether a text has this name as a word.
 fn has_word(text: &str, word: &str) -> bool {
-    let part = |letter: char| letter.is_alphanumeric() || letter == '_';
-    text.match_indices(word).any(|(at, _)| !text[..at].ends_with(part) && !text[at + word.len()..].starts_with(part))
+    text.match_indices(word)
+        .any(|(at, _)| !text[..at].ends_with(is_part) && !text[at + word.len()..].starts_with(is_part))
 }
 
-/// A function of a crate, by its path from the crate's root on: `module::name`, or `name` in the root itself.
+/// A function of a crate, by its path from the crate's root on: `module::name`, or `name` in the root itself. A method stands behind its
+/// type's name, one of a trait's impl behind the names of the type, the trait and the trait's arguments, run together, and one that a
+/// trait asks for behind the trait's name.
 struct Function {
     of: String,
+    /// The file in the crate's folder, and where in it the function's name and contract are.
+    file: PathBuf,
+    contract: Range<usize>,
     path: String,
     is_public: bool,
-    /// From its name to its body.
+    /// Whether a public trait asks for it.
+    is_asked_for: bool,
+    /// The type whose trait's impl it stands in.
+    type_of_impl: Option<String>,
+    /// From its name to its body, as it would stand at the left margin.
     signature: String,
     body: String,
 }
@@ -83,10 +93,65 @@ impl Function {
         self.path.rsplit("::").next().unwrap_or(&self.path)
     }
 
+    /// Whether it is called on a value or behind a type's name.
+    fn is_method(&self) -> bool {
+        self.path.rsplit("::").nth(1).is_some_and(is_type_name)
+    }
+
     /// Whether its text has this piece.
     fn has(&self, piece: &str) -> bool {
         self.signature.contains(piece) || self.body.contains(piece)
     }
+
+    /// Whether its signature has a clause that begins with this word.
+    fn has_clause(&self, word: &str) -> bool {
+        self.signature.lines().any(|line| line.strip_prefix("    ").is_some_and(|clause| clause.starts_with(word)))
+    }
+
+    /// Whether a text calls it: a method on a value or behind a type's name, another function behind no more than its module's name.
+    fn is_called_in(&self, text: &str) -> bool {
+        let call = format!("{}(", self.name());
+        text.match_indices(&call).map(|(at, _)| &text[..at]).any(|before| match before.strip_suffix("::") {
+            Some(outer) => is_type_name(last_word(outer)) == self.is_method(),
+            None if before.ends_with('.') => self.is_method(),
+            None => !self.is_method() && !before.ends_with("fn ") && !before.ends_with(is_part),
+        })
+    }
+
+    /// Whether another function hands it by its name to what it calls. What that function binds to the name is another thing.
+    fn is_handed_by(&self, other: &Function) -> bool {
+        let name = self.name();
+        let binds = |text: &str| ["let ", "mut ", "|"].iter().any(|before| text.contains(&format!("{before}{name}")));
+        let hands =
+            |text: &str| ["(", " "].iter().any(|a| [",", ")"].iter().any(|b| text.contains(&format!("{a}{name}{b}"))));
+        !self.is_method()
+            && !other.signature.contains(&format!("{name}: "))
+            && !binds(&other.body)
+            && hands(&other.body)
+    }
+
+    /// Whether another function of its crate calls it, or hands it on to be called. What is handed a value of a type may call what a trait's
+    /// impl says of that type.
+    fn is_used_by(&self, other: &Function) -> bool {
+        let named = |name: &String| called(&other.body).contains(name.as_str());
+        self.is_called_in(&other.body) || self.is_handed_by(other) || self.type_of_impl.as_ref().is_some_and(named)
+    }
+}
+
+/// Whether a letter can be part of a name.
+fn is_part(letter: char) -> bool {
+    letter.is_alphanumeric() || letter == '_'
+}
+
+/// The name that a text ends with, without the arguments behind a type's name.
+fn last_word(text: &str) -> &str {
+    let text = text.strip_suffix('>').and_then(|text| text.rsplit_once('<')).map_or(text, |(name, _)| name);
+    let text = text.trim_end_matches(':');
+    &text[text.trim_end_matches(is_part).len()..]
+}
+
+fn is_type_name(name: &str) -> bool {
+    name.starts_with(char::is_uppercase)
 }
 
 /// A function's name, from a text that begins with it.
@@ -94,7 +159,8 @@ fn name_of(text: &str) -> &str {
     text.split(['(', '<']).next().expect("a split has a first part")
 }
 
-/// Where a function's body begins, in a text that begins with its name: at the bracket that ends the first line, or a line that is not indented.
+/// Where a function's body begins, in a text that begins with its name and stands at the left margin: at the bracket that ends the first
+/// line, or a line that is not indented. A function that a trait asks for has none: a line ends with a semicolon before.
 fn body_at(text: &str) -> Option<usize> {
     let mut start = 0;
     for line in text.split('\n') {
@@ -102,38 +168,137 @@ fn body_at(text: &str) -> Option<usize> {
         if let Some(before) = ends.filter(|_| start == 0 || !line.starts_with(' ')) {
             return Some(start + before.len());
         }
+        if line.ends_with(';') {
+            return None;
+        }
         start += line.len() + 1;
     }
     None
 }
 
-/// Every function of every crate; a program's own are none.
-fn functions() -> Vec<Function> {
-    let mut found = Vec::new();
-    for (of, path) in crate_files("src", "rt").into_iter().filter(|(_, path)| stem(path) != "main") {
-        let text = read(&path);
-        let module = stem(&path);
-        for (at, _) in text.match_indices("fn ") {
-            let line_start = text[..at].rfind('\n').map_or(0, |end| end + 1);
-            let before = &text[line_start..at];
-            if !["", "pub ", "pub(crate) ", "pub extern \"C\" "].contains(&before) {
-                continue;
-            }
-            let rest = &text[at + "fn ".len()..];
-            let name = name_of(rest);
-            let body = body_at(rest).unwrap_or_else(|| panic!("{of}::{name} has no body"));
-            let is_empty = rest[body..].starts_with("{}");
-            let end = body + if is_empty { 0 } else { rest[body..].find("\n}").expect("a body ends") };
-            found.push(Function {
-                of: of.clone(),
-                path: if module == "lib" { name.to_string() } else { format!("{module}::{name}") },
-                is_public: before.starts_with("pub ") || before.starts_with("pub extern"),
-                signature: rest[..body].to_string(),
-                body: rest[body..end].to_string(),
-            });
+/// What stands between the brackets that a text begins with, and what stands behind them.
+fn bracketed(text: &str) -> Option<(&str, &str)> {
+    let inside = text.strip_prefix('<')?;
+    let mut depth = 1;
+    for (at, letter) in inside.char_indices() {
+        depth += match letter {
+            '<' => 1,
+            '>' if !inside[..at].ends_with('-') => -1,
+            _ => 0,
+        };
+        if depth == 0 {
+            return Some((&inside[..at], &inside[at + 1..]));
+        }
+    }
+    None
+}
+
+/// The names of a type and its arguments run together: `From<&Table>` is `FromRefTable`, and `Result<usize, Refusal>` `ResultUsizeRefusal`.
+fn run_together(text: &str) -> String {
+    let mut found = String::new();
+    for word in text.replace('&', " Ref ").split(|letter: char| !is_part(letter) && letter != '\'') {
+        let mut letters = word.chars();
+        if let Some(first) = letters.next().filter(|first| *first != '\'') {
+            found.extend(first.to_uppercase());
+            found.push_str(letters.as_str());
         }
     }
     found
+}
+
+/// What functions that are indented stand in.
+struct Block {
+    /// What their names stand behind.
+    name: String,
+    is_public_trait: bool,
+    type_of_impl: Option<String>,
+}
+
+/// The block that a line at the left margin begins, if it begins one.
+fn block(line: &str) -> Option<Block> {
+    if let Some(asked) = line.strip_prefix("pub trait ").or(line.strip_prefix("trait ")) {
+        let name = asked.split(|letter| !is_part(letter)).next().unwrap_or_default().to_string();
+        return Some(Block { name, is_public_trait: line.starts_with("pub "), type_of_impl: None });
+    }
+    let rest = line.strip_prefix("impl").filter(|rest| rest.starts_with(['<', ' ']))?;
+    let rest = bracketed(rest).map_or(rest, |(_, rest)| rest).trim_end_matches('{').trim();
+    let (of, what) = match rest.split_once(" for ") {
+        Some((of, what)) => (Some(of), what),
+        None => (None, rest),
+    };
+    let what = what.split(['<', ' ']).next().unwrap_or_default().to_string();
+    assert!(is_type_name(&what), "whose impl is {line}?");
+    Some(Block {
+        name: format!("{what}{}", of.map(run_together).unwrap_or_default()),
+        is_public_trait: false,
+        type_of_impl: of.map(|_| what),
+    })
+}
+
+/// What may stand before `fn`.
+const BEFORE: [&str; 4] = ["", "pub ", "pub(crate) ", "pub extern \"C\" "];
+
+/// Where a function is: its crate and its file, where its name begins in the file's text, how its lines are indented, and what stands before
+/// `fn`.
+struct Place<'a> {
+    of: &'a str,
+    path: &'a Path,
+    at: usize,
+    indentation: &'a str,
+    before: &'a str,
+}
+
+/// The function at a place of a file's text, in this block if it stands in one.
+fn function_at(place: &Place, text: &str, inside: Option<&Block>) -> Function {
+    let rest = text[place.at..].replace(&format!("\n{}", place.indentation), "\n");
+    let name = name_of(&rest);
+    let asked = inside.is_some_and(|block| block.is_public_trait);
+    let body = body_at(&rest).or(asked.then(|| rest.find(";\n").unwrap_or(rest.len())));
+    let body = body.unwrap_or_else(|| panic!("{}: {name} has no body", place.path.display()));
+    let end = if rest[body..].starts_with("{\n") { rest[body..].find("\n}").expect("a body ends") } else { 0 };
+    let name = inside.map_or(name.to_string(), |block| format!("{}::{name}", block.name));
+    let (signature, module) = (rest[..body].to_string(), stem(place.path));
+    let indented = signature.matches('\n').count() * place.indentation.len();
+    let folder = root().join("crates").join(place.of);
+    Function {
+        of: place.of.to_string(),
+        file: place.path.strip_prefix(folder).expect("a file is in its crate").to_path_buf(),
+        contract: place.at..place.at + body + indented,
+        path: if module == "lib" { name } else { format!("{module}::{name}") },
+        is_public: place.before.starts_with("pub ") || place.before.starts_with("pub extern"),
+        is_asked_for: asked,
+        type_of_impl: inside.and_then(|block| block.type_of_impl.clone()),
+        signature,
+        body: rest[body..body + end].to_string(),
+    }
+}
+
+/// The functions of a file: those at the left margin, and those of its traits and impls, which are indented by four spaces.
+fn functions_in(of: &str, path: &Path) -> Vec<Function> {
+    let text = read(path);
+    let (mut found, mut inside, mut start) = (Vec::new(), None::<Block>, 0);
+    for line in text.split('\n') {
+        let indentation = &line[..line.len() - line.trim_start().len()];
+        let head = &line[indentation.len()..];
+        inside = if inside.is_none() { block(line) } else { inside.filter(|_| line != "}") };
+        if let Some((before, _)) = head.split_once("fn ").filter(|(before, _)| BEFORE.contains(before)) {
+            let block = inside.as_ref().filter(|_| indentation == "    ");
+            assert!(block.is_some() || indentation.is_empty(), "{}: {line} is in no impl", path.display());
+            let at = start + indentation.len() + before.len() + "fn ".len();
+            found.push(function_at(&Place { of, path, at, indentation, before }, &text, block));
+        } else {
+            let is_other = ["pub", "const", "unsafe", "extern"].iter().any(|word| head.starts_with(word));
+            assert!(!is_other || !head.contains("fn "), "{}: what is {line}?", path.display());
+        }
+        start += line.len() + 1;
+    }
+    found
+}
+
+/// Every function of every crate; a program's own are none.
+fn functions() -> Vec<Function> {
+    let files = crate_files("src", "rt").into_iter().filter(|(_, path)| stem(path) != "main");
+    files.flat_map(|(of, path)| functions_in(&of, &path)).collect()
 }
 
 /// Every public function of every crate.
@@ -143,13 +308,12 @@ fn public_functions() -> Vec<Function> {
     found
 }
 
-/// The functions of a crate that a function's answer is made by: itself, and those of its crate that it calls, directly or through others.
+/// The functions of a crate that a function's answer is made by: itself, and those of its crate that it uses, directly or through others.
 fn made_by<'a>(function: &'a Function, all: &'a [Function]) -> Vec<&'a Function> {
     let mut found = vec![function];
     let mut next = 0;
     while next < found.len() {
-        let called = called(&found[next].body);
-        let more = all.iter().filter(|other| other.of == function.of && called.contains(other.name()));
+        let more = all.iter().filter(|other| other.of == function.of && other.is_used_by(found[next]));
         for other in more.collect::<Vec<_>>() {
             if !found.iter().any(|known| known.path == other.path) {
                 found.push(other);
@@ -160,6 +324,24 @@ fn made_by<'a>(function: &'a Function, all: &'a [Function]) -> Vec<&'a Function>
     found
 }
 
+/// A method goes by the name that Rattle gives it, which is the one that the wrong programs name.
+#[test]
+fn methods_go_by_their_types() {
+    let heads = [
+        ("impl<'a> Line<'a> {", "Line"),
+        ("impl<'a, R: Input, E: Print> Program<'a, R, E>", "Program"),
+        ("impl From<&Table> for TableForm {", "TableFormFromRefTable"),
+        ("impl From<Result<usize, Refusal>> for Written {", "WrittenFromResultUsizeRefusal"),
+        ("impl TryFrom<BeaconForm> for Beacon {", "BeaconTryFromBeaconForm"),
+        ("pub trait Record {", "Record"),
+    ];
+    for (head, name) in heads {
+        assert_eq!(block(head).expect("a block begins").name, name);
+    }
+    let methods = functions().into_iter().filter(Function::is_method).count();
+    assert!(methods > 30, "only {methods} methods were found");
+}
+
 /// Fails with all that was found wrong; `tried` says that the search found what it looks through.
 fn expect_none(what: &str, wrong: Vec<String>, tried: usize, at_least: usize) {
     assert!(tried >= at_least, "{what}: only {tried} were looked at");
@@ -168,9 +350,9 @@ fn expect_none(what: &str, wrong: Vec<String>, tried: usize, at_least: usize) {
 
 #[test]
 fn public_functions_promise_and_ask_nothing() {
-    let functions = public_functions();
-    let fits =
-        |function: &&Function| function.signature.contains("\n    ensures") && !function.signature.contains("requires");
+    let is_offered = |function: &Function| function.is_public || function.is_asked_for;
+    let functions: Vec<Function> = functions().into_iter().filter(is_offered).collect();
+    let fits = |function: &&Function| function.has_clause("ensures") && !function.signature.contains("requires");
     let wrong = functions.iter().filter(|function| !fits(function)).map(Function::full_path).collect();
     expect_none("public functions without an ensures, or with a requires", wrong, functions.len(), 50);
 }
@@ -286,42 +468,65 @@ fn wrong_programs_name_their_function() {
     expect_none("wrong programs whose text is not that of the function they name", wrong, tried, 150);
 }
 
-/// The function whose signature or contract stands at this position of a file, if one does.
-fn contract_at(code: &str, at: usize) -> Option<&str> {
-    let start = code[..at].rfind("fn ")? + "fn ".len();
-    let end = start + body_at(&code[start..])?;
-    (at < end).then(|| name_of(&code[start..end]))
-}
-
-/// Whether a crate calls a function of its own.
-fn is_called(of: &str, name: &str) -> bool {
-    let part = |letter: char| letter.is_alphanumeric() || letter == '_';
-    let call = format!("{name}(");
-    files(&root().join("crates").join(of).join("src"), "rt").iter().any(|path| {
-        let code = read(path);
-        let mut before = code.match_indices(&call).map(|(at, _)| &code[..at]);
-        before.any(|before| !before.ends_with("fn ") && !before.ends_with(part))
-    })
+/// Whether a crate uses a function of its own.
+fn is_used(function: &Function, all: &[Function]) -> bool {
+    let sources = files(&root().join("crates").join(&function.of).join("src"), "rt");
+    let others = |other: &&Function| other.of == function.of && other.path != function.path;
+    sources.iter().any(|path| function.is_called_in(&read(path)))
+        || all.iter().filter(others).any(|other| function.is_used_by(other))
 }
 
 /// Among wrong programs that are tried together, a changed contract would reach the proofs of its function's callers.
 #[test]
 fn changed_contracts_have_no_callers() {
+    let functions = functions();
     let (mut wrong, mut tried) = (Vec::new(), 0);
     for (of, path) in crate_files("must-fail", "edit") {
         let text = read(&path);
-        let mut code = String::new();
+        let (mut file, mut code) = ("", String::new());
         for line in text.lines().filter(|_| text.contains("\nwrong: ")) {
-            if let Some(file) = line.strip_prefix("file: ") {
-                code = read(&root().join("crates").join(&of).join(file));
+            if let Some(named) = line.strip_prefix("file: ") {
+                (file, code) = (named, read(&root().join("crates").join(&of).join(named)));
             } else if let Some(at) = line.strip_prefix("old: ").and_then(|old| code.find(old)) {
                 tried += 1;
-                let reaches = contract_at(&code, at).filter(|name| is_called(&of, name));
-                wrong.extend(reaches.map(|name| format!("{of}::{name}")));
+                let stands_in =
+                    |ours: &&Function| ours.of == of && ours.file == Path::new(file) && ours.contract.contains(&at);
+                let reaches = functions.iter().filter(stands_in).filter(|ours| is_used(ours, &functions));
+                wrong.extend(reaches.map(Function::full_path));
             }
         }
     }
     expect_none("contracts that are changed together with other functions, and called", wrong, tried, 100);
+}
+
+/// The lines of an edit whose old text does not stand exactly once in its file, with what the lines before them put there.
+fn unfit_lines(of: &str, edit: &str) -> Vec<String> {
+    let mut codes: BTreeMap<&str, String> = BTreeMap::new();
+    let (mut file, mut old, mut unfit) = ("", "", Vec::new());
+    for line in edit.lines() {
+        if let Some(named) = line.strip_prefix("file: ") {
+            file = named;
+            codes.entry(file).or_insert_with(|| read(&root().join("crates").join(of).join(file)));
+        } else if let Some(text) = line.strip_prefix("old: ") {
+            old = text;
+        } else if let Some(new) = line.strip_prefix("new:") {
+            let code = codes.get_mut(file).expect("an edit names its file first");
+            if code.matches(old).count() == 1 {
+                *code = code.replacen(old, new.strip_prefix(' ').unwrap_or(new), 1);
+            } else {
+                unfit.push(format!("{of}/{file}: {old}"));
+            }
+        }
+    }
+    unfit
+}
+
+/// What a wrong program changes stands in the code as it is.
+#[test]
+fn changed_texts_are_there() {
+    let edits = crate_files("must-fail", "edit");
+    let wrong = edits.iter().flat_map(|(of, path)| unfit_lines(of, &read(path))).collect();
+    expect_none("texts that wrong programs change and that do not stand once in the code", wrong, edits.len(), 100);
 }
 
 /// The rows of the tables of public functions in CLAIMS.md, each with the functions of its first column and the wrong programs of its last.
@@ -342,16 +547,17 @@ fn function_rows(claims: &str) -> Vec<(Vec<&str>, Vec<&str>)> {
     found
 }
 
-/// Each public function has two wrong programs at least, each in the function itself or in one of its crate that its answer is made by; and
-/// its row of CLAIMS.md has these alone. A function that cites theorems, or gives a constant of the definitions, has wrong claims and
-/// definitions of its crate too.
+/// Each public function, and each other one that CLAIMS.md has a row for, has two wrong programs at least, each in the function itself or in
+/// one of its crate that its answer is made by; and its row has these alone. A function that cites theorems, or gives a constant of the
+/// definitions, has wrong claims and definitions of its crate too.
 #[test]
 fn functions_have_two_wrong_programs() {
     let claims = document("docs/CLAIMS.md");
     let (all, wrongs) = (functions(), wrong_programs());
     let rows = function_rows(&claims);
+    let has_row = |path: &str| rows.iter().any(|(functions, _)| functions.contains(&path));
     let mut bad = Vec::new();
-    for function in all.iter().filter(|function| function.is_public) {
+    for function in all.iter().filter(|function| function.is_public || has_row(&function.full_path())) {
         let path = function.full_path();
         let makers = made_by(function, &all);
         let shuts_out = |wrong: &&Wrong| {
@@ -430,10 +636,7 @@ fn claims_are_promised() {
     expect_none("claims that no function promises", wrong, claims.len(), 20);
 }
 
-/// Definitions that state no rule: what the functions answer that read and print for a program.
-const STATE_NO_RULE: [&str; 1] = ["frame_program/Counts"];
-
-/// Each file of definitions names sections of the rules, which are there; one that states no rule names none.
+/// Each file of definitions names sections of the rules, which are there.
 #[test]
 fn definitions_cite_the_rules() {
     let rules = document("docs/RULES.md");
@@ -447,11 +650,9 @@ fn definitions_cite_the_rules() {
         let cited: Vec<&str> = comment.split("docs/RULES.md, ").skip(1).collect();
         !cited.is_empty() && cited.iter().all(|rest| sections.iter().any(|section| rest.starts_with(section)))
     };
-    let wrong = definitions.iter().filter_map(|(of, path)| {
-        let name = format!("{of}/{}", stem(path));
-        (cites(path) == STATE_NO_RULE.contains(&name.as_str())).then_some(name)
-    });
-    expect_none("definitions that cite no section of the rules", wrong.collect(), definitions.len(), 40);
+    let wrong: Vec<String> =
+        definitions.iter().filter(|(_, path)| !cites(path)).map(|(of, path)| format!("{of}/{}", stem(path))).collect();
+    expect_none("definitions that cite no section of the rules", wrong, definitions.len(), 40);
 }
 
 /// Files that the documents name, from the root or from crates/ on, are there.
@@ -486,8 +687,7 @@ fn crates_and_documents_are_listed() {
 
 /// The names behind which a text has an opening bracket.
 fn called(text: &str) -> BTreeSet<&str> {
-    let part = |letter: char| letter.is_alphanumeric() || letter == '_';
-    text.split('(').map(|before| &before[before.trim_end_matches(part).len()..]).collect()
+    text.split('(').map(|before| &before[before.trim_end_matches(is_part).len()..]).collect()
 }
 
 /// The header declares what the library exports, and nothing else.
