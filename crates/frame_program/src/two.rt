@@ -91,8 +91,33 @@ where
     program.take_file(argument, frame)
 }
 
-// Reads both frames, after a look at both arguments, and answers how many bytes each has. Where one did not come in, that is told, and the
-// second is not looked at where it is the first.
+// Reads the first frame, after a look at both arguments, and answers how many bytes it has. Where it did not come in, that is told.
+pub fn take_first<R: Env + Files + Input, E: Print>(
+    program: &Program<R, E>,
+    frame: &mut [u8],
+) -> Result<usize, Told>
+where
+    R::Reader: IsTerminal,
+    ensures { IfOk result (λ count. count ≤ length frame.old) }
+{
+    look(program)?;
+    take_one(program, FIRST, frame)
+}
+
+// The same for the second frame, once the first was read.
+pub fn take_second<R: Env + Files + Input, E: Print>(
+    program: &Program<R, E>,
+    frame: &mut [u8],
+) -> Result<usize, Told>
+where
+    R::Reader: IsTerminal,
+    ensures { IfOk result (λ count. count ≤ length frame.old) }
+{
+    take_one(program, SECOND, frame)
+}
+
+// Reads both frames, and answers how many bytes each has. Where one did not come in, that is told, and the second is not looked for where it
+// is the first.
 pub fn take<R: Env + Files + Input, E: Print>(
     program: &Program<R, E>,
     first: &mut [u8],
@@ -103,9 +128,8 @@ where
     ensures first { IfOk result (λ counts. counts.0 ≤ length first.old) }
     ensures second { IfOk result (λ counts. counts.1 ≤ length second.old) }
 {
-    look(program)?;
-    let one = take_one(program, FIRST, first)?;
-    let other = take_one(program, SECOND, second)?;
+    let one = take_first(program, first)?;
+    let other = take_second(program, second)?;
     Ok((one, other))
 }
 

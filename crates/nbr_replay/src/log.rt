@@ -43,13 +43,13 @@ impl Log<'_> {
         let id = self.ids[i];
         let value = self.values[i];
         match self.kinds[i] {
-            0 => Call::Advertise { id, rank: value },
-            1 => Call::Report {
+            nbr_replay_spec::ADVERTISE => Call::Advertise { id, rank: value },
+            nbr_replay_spec::REPORT => Call::Report {
                 id,
                 attempts: value,
                 acked: self.flags[i] == 1,
             },
-            2 => Call::Forget { id },
+            nbr_replay_spec::FORGET => Call::Forget { id },
             _ => Call::Evaluate,
         }
     }

@@ -5,8 +5,17 @@
 // The most rows that a log may have.
 pub const MOST_ROWS: usize = 65535;
 
-// The highest kind that a row of a log may have. A log has the numbers of kinds, and no enum, since C lends it (the C interface).
-pub const HIGHEST_KIND: u8 = 3;
+// The kinds of calls, as a log has them: numbers, and no enum, since C lends it (the C interface).
+pub const ADVERTISE: u8 = 0;
+
+pub const REPORT: u8 = 1;
+
+pub const FORGET: u8 = 2;
+
+pub const EVALUATE: u8 = 3;
+
+// The highest kind that a row of a log may have.
+pub const HIGHEST_KIND: u8 = EVALUATE;
 
 // A call that a row of a log makes, with what it is given besides the table.
 #[derive(Clone, Copy, Debug, PartialEq, Eq)]
