@@ -107,8 +107,8 @@ fn synchronization_field(synchronization: Synchronization, place: usize) -> Cont
     }
 }
 
-fn timeslot_field(template: &TimeslotTemplate, place: usize) -> Content
-    ensures { result ≡ content_in (timeslot_fields template.now) place }
+fn timeslot_field(template: TimeslotTemplate, place: usize) -> Content
+    ensures { result ≡ content_in (timeslot_fields template) place }
 {
     if place == 0 {
         return number(u64::from(template.id));
@@ -134,8 +134,8 @@ fn link_number(link: Link, part: usize) -> u64
 }
 
 // The fields of all links, three for each place.
-fn link_field(slotframe: &Slotframe, place: usize) -> Content
-    ensures { result ≡ links_content slotframe.now place }
+fn link_field(slotframe: Slotframe, place: usize) -> Content
+    ensures { result ≡ links_content slotframe place }
 {
     let link = place / 3;
     if link >= 16 {
@@ -145,8 +145,8 @@ fn link_field(slotframe: &Slotframe, place: usize) -> Content
     content_if(link < usize::from(slotframe.count), number(value))
 }
 
-fn slotframe_field(slotframe: &Slotframe, place: usize) -> Content
-    ensures { result ≡ content_in (slotframe_fields slotframe.now) place }
+fn slotframe_field(slotframe: Slotframe, place: usize) -> Content
+    ensures { result ≡ content_in (slotframe_fields slotframe) place }
 {
     match place {
         0 => number(u64::from(slotframe.handle)),
@@ -156,8 +156,8 @@ fn slotframe_field(slotframe: &Slotframe, place: usize) -> Content
     }
 }
 
-fn joining_field(joining: &JoiningInformation, place: usize) -> Content
-    ensures { result ≡ content_in (joining_fields joining.now) place }
+fn joining_field(joining: JoiningInformation, place: usize) -> Content
+    ensures { result ≡ content_in (joining_fields joining) place }
 {
     let there = joining.present;
     match place {
@@ -189,15 +189,15 @@ pub fn content(beacon: Beacon, place: usize) -> Content
         );
     }
     if place < eb_fields_spec::HOPPING {
-        return timeslot_field(&beacon.timeslot, place - eb_fields_spec::TIMESLOT);
+        return timeslot_field(beacon.timeslot, place - eb_fields_spec::TIMESLOT);
     }
     if place < eb_fields_spec::SLOTFRAME {
         return number(u64::from(beacon.hopping));
     }
     if place < eb_fields_spec::JOINING {
-        return slotframe_field(&beacon.slotframe, place - eb_fields_spec::SLOTFRAME);
+        return slotframe_field(beacon.slotframe, place - eb_fields_spec::SLOTFRAME);
     }
-    joining_field(&beacon.joining, place - eb_fields_spec::JOINING)
+    joining_field(beacon.joining, place - eb_fields_spec::JOINING)
 }
 
 // Whether two contents are the same: of one kind, with the same value.
