@@ -85,7 +85,8 @@ fn content_if(there: bool, content: Content) -> Content
     if there { content } else { absent() }
 }
 
-// Each of these gives the content of a field by its place among the fields of one element; absent behind the last.
+// Each of these gives the content of a field by its place among the fields of one element; absent behind the last. An element goes by value: by
+// reference the whole record would stand in memory before the first test of the place (docs/SPEED.md).
 fn header_field(sequence: SequenceNumber, pan: u16, source: Address, place: usize) -> Content
     ensures { result ≡ content_in (header_fields sequence pan source) place }
 {
