@@ -2,7 +2,6 @@
 -- Assumes nothing.
 use Rattle.std.specs.Prelude.{ℕ, suc, ◌-◌, Bool, true, false, Result, Ok, Err, length, replicate}
 use mathlib.Core.List.{List, [], ◌∷◌, ◌++◌, filter}
-use Rattle.arrayvec.specs.ArrayVec.{ArrayVec}
 use Rattle.octets_spec.specs.Choice.{if_eq}
 use Rattle.refusal.specs.Refusal.{done, number_of}
 use Rattle.eb_record_spec.specs.declared.Beacon.{Beacon}
@@ -10,6 +9,7 @@ use Rattle.eb_read_spec.specs.Read.{ReadAnswer}
 use Rattle.eb_fields_spec.specs.Content.{absent_content}
 use Rattle.eb_fields_spec.specs.Fields.{Field, fields, field_count}
 use Rattle.compare_spec.specs.declared.Difference.{Difference}
+use Rattle.compare_spec.specs.declared.Differences.{Differences as DifferencesGiven}
 use Rattle.compare_spec.specs.declared.Refused.{Refused}
 use Rattle.compare_spec.specs.declared.Refused.TheVariants.{First, Second, Both}
 use Rattle.compare_spec.specs.Decide.{Differs, differs?}
@@ -57,9 +57,13 @@ compared one other = record {
   differences = if_eq one.number done (if_eq other.number done (list_of (differences one.beacon other.beacon)) no_list) no_list;
 }
 
+-- the list that is given, as the definitions have it
+unfoldable pub list_in : DifferencesGiven → Differences
+list_in given = record { listed = true; count = given.count; entries = given.entries }
+
 -- what is answered: a list where both frames are done, else the number of each, which is that of what is done where it is not refused
-abbrev pub comparison_of : Result (ArrayVec Difference) Refused → Comparison
-comparison_of (Ok found) = record { first = done; second = done; differences = list_of found.items }
+abbrev pub comparison_of : Result DifferencesGiven Refused → Comparison
+comparison_of (Ok given) = record { first = done; second = done; differences = list_in given }
 comparison_of (Err (First first)) = record { first = number_of first; second = done; differences = no_list }
 comparison_of (Err (Second second)) = record { first = done; second = number_of second; differences = no_list }
 comparison_of (Err (Both first second)) = record { first = number_of first; second = number_of second; differences = no_list }

@@ -1,9 +1,9 @@
 // Two beacons side by side: the fields in which their records differ, and what comparing two frames answers.
 #![tactic(auto)]
 
+ghost use Rattle.std.specs.Prelude.{◌≡◌, ◌≤◌, length, take};
 ghost use Rattle.compare_spec.specs.Claims.{SameFieldsSameRecord, NoDifferenceWhenEqual, EachDiffers, NoneIsLeftOut, InOrder, ListedWhenBothDone, NamesStandInEveryList, ThereAreSuch};
 
-use arrayvec::ArrayVec;
 use eb_fields_spec::Content;
 use refusal::Refusal;
 
@@ -15,8 +15,23 @@ pub struct Difference {
     pub second: Content,
 }
 
-// The fields that differ, in order. There is room for every field.
-pub type Differences = ArrayVec<Difference, 77>;
+// The fields that differ, in order: the first `count` of `entries`. There is room for every field.
+// An array with its length beside it: it is Copy, as an ArrayVec is not, and needs no heap.
+#[derive(Clone, Copy, Debug, PartialEq, Eq)]
+pub struct Differences {
+    pub count: usize,
+    pub entries: [Difference; 77],
+}
+
+impl Differences {
+    // The fields that differ, without what stands behind them.
+    pub fn as_slice(&self) -> &[Difference]
+        ensures list { result.now ≡ take self.now.count self.now.entries }
+        ensures few { length result.now ≤ 77 }
+    {
+        &self.entries[..self.count.min(eb_fields_spec::FIELDS)]
+    }
+}
 
 // Why there is no list: which frames are refused, and why.
 #[derive(Clone, Copy, Debug, PartialEq, Eq)]

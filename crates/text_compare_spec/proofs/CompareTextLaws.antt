@@ -1,5 +1,5 @@
 -- The laws of a comparison's text, in the shape in which the code meets them: a line's parts, lines one by one, and the whole. Assumes nothing.
-use Prim.Native.Nat.{ℕ, ◌+◌, ◌-◌, ◌*◌, ◌<◌, ◌≤◌}
+use Prim.Native.Nat.{ℕ, ◌+◌, ◌*◌, ◌<◌, ◌≤◌}
 use mathlib.Core.Path.{◌≡◌, refl, sym}
 use mathlib.Core.Bool.{false}
 use mathlib.Core.List.{List, [], ◌∷◌, ◌++◌, append-nil, append_assoc}
@@ -7,19 +7,19 @@ use native.Mathlib.Numerals.{add-one}
 use native.Mathlib.Omega.{arith}
 use lib.Dec.{lit≤}
 use lib.ListN.{length, get_or, take}
-use lib.Seq.{take-suc, take-length, take-append_seam}
+use lib.Seq.{take-suc, take-length}
 use Rattle.octets_spec.specs.Choice.{if_on}
 use Rattle.octets_spec.proofs.ChoiceLaws.{if_off_lem}
 use Rattle.eb_fields_spec.specs.declared.Content.{Content}
 use Rattle.eb_fields_spec.specs.Fields.{name_at}
 use Rattle.compare_spec.specs.declared.Difference.{Difference}
+use Rattle.compare_spec.specs.declared.Differences.{Differences as DifferencesGiven}
 use Rattle.compare_spec.specs.declared.Refused.{Refused}
 use Rattle.compare_spec.specs.declared.Refused.TheVariants.{First, Second, Both}
-use Rattle.compare_spec.specs.Compare.{Comparison, blank_difference, list_of, no_list, comparison_of}
-use Rattle.arrayvec.specs.ArrayVec.{ArrayVec}
+use Rattle.compare_spec.specs.Compare.{Comparison, list_in, no_list, comparison_of}
 use Rattle.refusal.specs.declared.Refusal.{Refusal}
 use Rattle.refusal.specs.Refusal.{number_of}
-use Rattle.std.specs.Prelude.{Result, Ok, Err, replicate}
+use Rattle.std.specs.Prelude.{Result, Ok, Err}
 use Rattle.text_put_spec.specs.Part.{newline, refused_name, field, PartPut}
 use Rattle.text_put_spec.proofs.PartLaws.{row, wider, nothing_put}
 use Rattle.text_fields_spec.specs.ContentText.{content_text}
@@ -65,13 +65,11 @@ module _ (s : List ℕ) (l : List Difference) (at : ℕ) where
     lines_end h k = let all : i ≡ length l = omega (arith, h, k) in rw (all, take-length l) at so_far
 
 -- ---- the whole text
-module _ (y : Comparison) (s t : List ℕ) (at r : ℕ) (x : Result (ArrayVec Difference) Refused) (answer : comparison_of x ≡ y) where
-  pub text_listed : (found : ArrayVec Difference) (list : List Difference) → x ≡ Ok found → list ≡ found.items → length list ≤ 77 → PartPut (149 * length list) s at (lines_text list) t r → PartPut 11473 s at (compared_text y) t r
-  unfolding compared_text list_of if_on
+module _ (y : Comparison) (s t : List ℕ) (at r : ℕ) (x : Result DifferencesGiven Refused) (answer : comparison_of x ≡ y) where
+  pub text_listed : (found : DifferencesGiven) (list : List Difference) → x ≡ Ok found → list ≡ take found.count found.entries → length list ≤ 77 → PartPut (149 * length list) s at (lines_text list) t r → PartPut 11473 s at (compared_text y) t r
+  unfolding compared_text list_in if_on
   text_listed found list e is short put =
-      let this : comparison_of (Ok found) ≡ y = rw e at answer in
-      let all : take (length found.items) (found.items ++ replicate (77 - length found.items) blank_difference) ≡ found.items = take-append_seam found.items _ in
-      rw (← this, all, ← is) (wider (149 * length list) 11473 at r s t _ (omega (arith, short)) put)
+      let this : comparison_of (Ok found) ≡ y = rw e at answer in rw (← this, ← is) (wider (149 * length list) 11473 at r s t _ (omega (arith, short)) put)
 
   module _ (first second : ℕ) (put : PartPut 50 s at (refused_text first second) t r) where
     pub text_refused : y.differences.listed ≡ false → first ≡ y.first → second ≡ y.second → PartPut 11473 s at (compared_text y) t r
