@@ -25,27 +25,33 @@ pub extern "C" fn tesolvagna_table_init() -> TableForm
     }
 }
 
-// What a call answers that found this to store, or why it is refused, and leaves this held parent.
-fn told(table: TableForm, found: Result<Store, Refusal>, left: Option<u64>) -> TableAnswer
-    ensures { result ≡ stored_form table (change_of found) left }
+// Changes a table as a call does that found this to store, or why it is refused, and leaves this held parent, and says the number that
+// the call answers.
+fn told(table: &mut TableForm, found: Result<Store, Refusal>, left: Option<u64>) -> u8
+    ensures { record { number = result; table = table.new } ≡ stored_form table.old (change_of found) left }
 {
     c_table::stored(table, refusal::number_in(found), found.ok(), left)
 }
 
 // Sets a neighbour's rank, or adds the neighbour: 8 for a table that is refused, 11 for a new neighbour where no place is free.
 #[unsafe(no_mangle)]
-pub extern "C" fn tesolvagna_table_advertise(table: TableForm, id: u64, rank: u16) -> TableAnswer
+pub extern "C" fn tesolvagna_table_advertise(
+    mut table: TableForm,
+    id: u64,
+    rank: u16,
+) -> TableAnswer
     ensures { result ≡ advertised_form table id rank }
 {
     let parent = table.held_parent();
     let found = nbr_calls::advertise::advertising(&table.places, id, rank);
-    told(table, found, parent)
+    let number = told(&mut table, found, parent);
+    TableAnswer { number, table }
 }
 
 // Counts 1 to 4 attempts to reach a neighbour: 8 for a table that is refused and for other numbers, 10 for an unknown neighbour.
 #[unsafe(no_mangle)]
 pub extern "C" fn tesolvagna_table_report(
-    table: TableForm,
+    mut table: TableForm,
     id: u64,
     attempts: u32,
     acked: bool,
@@ -54,18 +60,20 @@ pub extern "C" fn tesolvagna_table_report(
 {
     let parent = table.held_parent();
     let found = nbr_calls::report::reporting(&table.places, id, attempts, acked);
-    told(table, found, parent)
+    let number = told(&mut table, found, parent);
+    TableAnswer { number, table }
 }
 
 // Removes a neighbour: 8 for a table that is refused, 10 for an unknown neighbour.
 #[unsafe(no_mangle)]
-pub extern "C" fn tesolvagna_table_forget(table: TableForm, id: u64) -> TableAnswer
+pub extern "C" fn tesolvagna_table_forget(mut table: TableForm, id: u64) -> TableAnswer
     ensures { result ≡ forgotten_form table id }
 {
     let parent = table.held_parent();
     let left = nbr_calls::forget::without(parent, id);
     let found = nbr_calls::forget::forgetting(&table.places, id);
-    told(table, found, left)
+    let number = told(&mut table, found, left);
+    TableAnswer { number, table }
 }
 
 // Sets the held parent, and says the own rank, the parent and whether it changed: 8 for a table that is refused.
@@ -96,18 +104,21 @@ pub extern "C" fn tesolvagna_table_evaluate(mut table: TableForm) -> EvaluationA
     }
 }
 
-// What a log of calls comes to on a table; a C form that is no table's is refused.
-fn replayed(form: &TableForm, log: &Log<'_>) -> Result<Outcome, Refusal>
-    ensures { outcome_told form.now result ≡ replayed_form form.now (rows_of log.now) }
+// Runs a log of calls on the table that a C form is; one that is no table's is refused. What is refused stays as it is.
+fn replayed(form: &mut TableForm, log: &Log<'_>) -> Result<Outcome, Refusal>
+    ensures { outcome_told form.new result ≡ replayed_form form.old (rows_of log.now) }
 {
-    nbr_replay::replay(Table::try_from(form)?, log)
+    let mut table = Table::try_from(&*form)?;
+    let ended = nbr_replay::replay(&mut table, log);
+    *form = TableForm::from(&table);
+    ended
 }
 
 // Runs a log of calls on a table, one row for each call: 8 for a table or a log that is refused. On what it counts, parents do not
 // flap.
 #[unsafe(no_mangle)]
 pub extern "C" fn tesolvagna_table_replay(
-    table: TableForm,
+    mut table: TableForm,
     kinds: &[u8],
     ids: &[u64],
     values: &[u16],
@@ -124,7 +135,7 @@ pub extern "C" fn tesolvagna_table_replay(
         values,
         flags,
     };
-    match replayed(&table, &log) {
+    match replayed(&mut table, &log) {
         Ok(ended) => ReplayAnswer {
             number: refusal::DONE,
             applies: ended.applies,
@@ -133,7 +144,7 @@ pub extern "C" fn tesolvagna_table_replay(
             rises: ended.rises,
             first: ended.first,
             last: ended.last,
-            table: TableForm::from(&ended.table),
+            table,
         },
         Err(refusal) => ReplayAnswer {
             number: refusal.number(),

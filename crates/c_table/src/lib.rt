@@ -4,7 +4,7 @@
 ghost use Rattle.std.specs.Prelude.{◌≡◌, set};
 ghost use Rattle.c_table_spec.specs.Table.{at_of, change_with, place_of, refused, stored_form};
 
-use c_table_spec::{TableAnswer, TableForm};
+use c_table_spec::TableForm;
 use nbr_metric_spec::Place;
 use nbr_table_spec::{PLACES, Store};
 use refusal::Refusal;
@@ -27,23 +27,16 @@ fn put(places: &mut [Place; 32], found: Option<Store>)
     }
 }
 
-// What a call answers that has this number, stores this and leaves this held parent. A C form that is refused stays as it is. Any number may
-// come with any place, so they are two parameters and no Result.
-pub fn stored(
-    mut table: TableForm,
-    number: u8,
-    found: Option<Store>,
-    left: Option<u64>,
-) -> TableAnswer
-    ensures { result ≡ stored_form table (change_with number found) left }
+// Changes a table as a call does that has this number, stores this and leaves this held parent, and says the number that the call answers. A C
+// form that is refused stays as it is. Any number may come with any place, so they are two parameters and no Result. The table is lent, so that
+// a caller has it once.
+pub fn stored(table: &mut TableForm, number: u8, found: Option<Store>, left: Option<u64>) -> u8
+    ensures { record { number = result; table = table.new } ≡ stored_form table.old (change_with number found) left }
 {
-    if is_refused(&table) {
-        return TableAnswer {
-            number: Refusal::OutOfLimits.number(),
-            table,
-        };
+    if is_refused(table) {
+        return Refusal::OutOfLimits.number();
     }
     put(&mut table.places, found);
     table.hold(left);
-    TableAnswer { number, table }
+    number
 }

@@ -5,12 +5,10 @@ use Prim.Native.Nat.{ℕ, ◌*◌, ◌+◌, ◌≤◌}
 use native.Mathlib.Omega.{arith}
 use mathlib.Core.Path.{◌≡◌, refl, sym, ap, subst, ◌∙◌}
 use mathlib.Core.Bool.{Bool, true, false, not}
-use mathlib.Core.List.{List}
 use mathlib.Core.Logic.{◌⊎◌, inl, inr, ⊎_elim}
 use Rattle.std.specs.Option.{option_eq}
 use lib.Dec.{eqb}
 use lib.ListN.{length, replicate, set}
-use lib.Seq.{set_out}
 use Rattle.octets_spec.specs.Choice.{if_on}
 use Rattle.octets_spec.proofs.ChoiceLaws.{by_test, if_off_lem, if_on_lem}
 use Rattle.octets_spec.proofs.CountedLaws.{length_mapped}
@@ -159,11 +157,10 @@ module _ (form : TableForm) (l : Log) where
   was_stray : (r : Refusal) → tried form ≡ Err r → (is_table form ≡ false) × (r ≡ OutOfLimits)
   was_stray r e = by_test (is_table form) (λ h. absurd (let g : Ok (table_of form) ≡ Err r = rw h at e in cc)) (λ h. (h, let g : Err OutOfLimits ≡ Err r = rw h at e in cc))
 
-  -- a table's C form: what C is told is the C form of the answer
-  told_is : is_table form ≡ true → (o : Result Ended Refusal) → outcome_told form o ≡ outcome_form (outcome_of (table_of form) o)
-  told_is h (Ok ended) = refl
-  told_is h (Err r) =
-      ap (λ (z : TableForm). record { number = number_of r; applies = false; evaluations = 0; changes = 0; rises = 0; first = 0; last = 0; table = z }) (sym (tables_are_forms form h))
+  -- what C is told of a table's C form is the C form of the answer
+  told_is : (t : Table) (o : Result Ended Refusal) → outcome_told (form_of t) o ≡ outcome_form (outcome_of t o)
+  told_is t (Ok ended) = refl
+  told_is t (Err r) = refl
 
   module _ (s : Result Table Refusal) (e : s ≡ tried form) where
     pub replay_stray : (r : Refusal) → s ≡ Err r → outcome_told form (Err r) ≡ replayed_form form l
@@ -172,21 +169,17 @@ module _ (form : TableForm) (l : Log) where
         let w = was_stray r (sym e ∙ u) in
         if_off_lem (outcome_form (replayed (table_of form) l)) (replay_refusal form) (is_table form) w.0 (ap (λ (z : Refusal). outcome_told form (Err z)) w.1)
 
-    pub replay_done : (t : Table) (o : Result Ended Refusal) → s ≡ Ok t → outcome_of t o ≡ replayed t l → outcome_told form o ≡ replayed_form form l
+    pub replay_done : (t left : Table) (after : TableForm) (o : Result Ended Refusal) → s ≡ Ok t → outcome_of left o ≡ replayed t l → after ≡ form_of left → outcome_told after o ≡ replayed_form form l
     unfolding replayed_form
-    replay_done t o u f =
+    replay_done t left after o u f g =
         let w = was_tried t (sym e ∙ u) in
-        let g : outcome_of (table_of form) o ≡ replayed (table_of form) l = subst (λ (z : Table). outcome_of z o ≡ replayed z l) w.1 f in
-        if_on_lem (outcome_form (replayed (table_of form) l)) (replay_refusal form) (is_table form) w.0 (told_is w.0 o ∙ ap outcome_form g)
+        if_on_lem (outcome_form (replayed (table_of form) l)) (replay_refusal form) (is_table form) w.0
+        (ap (λ (z : TableForm). outcome_told z o) g ∙ told_is left o ∙ ap outcome_form f ∙ ap (λ (z : Table). outcome_form (replayed z l)) w.1)
 
-  -- the answer that C gets
-  pub replay_told : (o : Ended) (t : TableForm) → outcome_told form (Ok o) ≡ replayed_form form l → t ≡ form_of o.table
-      → ◌≡◌ {A = ReplayAnswer} (record { number = 0; applies = o.applies; evaluations = o.evaluations; changes = o.changes; rises = o.rises; first = o.first; last = o.last; table = t }) (replayed_form form l)
-  replay_told o t e f = (λ i. record { number = 0; applies = o.applies; evaluations = o.evaluations; changes = o.changes; rises = o.rises; first = o.first; last = o.last; table = f i }) ∙ e
-
-  pub replay_refused : (r : Refusal) (n : ℕ) → outcome_told form (Err r) ≡ replayed_form form l → n ≡ number_of r
-      → ◌≡◌ {A = ReplayAnswer} (record { number = n; applies = false; evaluations = 0; changes = 0; rises = 0; first = 0; last = 0; table = form }) (replayed_form form l)
-  replay_refused r n e f = (λ i. record { number = f i; applies = false; evaluations = 0; changes = 0; rises = 0; first = 0; last = 0; table = form }) ∙ e
+  -- the answer that C gets of a refusal
+  pub replay_refused : (after : TableForm) (r : Refusal) (n : ℕ) → outcome_told after (Err r) ≡ replayed_form form l → n ≡ number_of r
+      → ◌≡◌ {A = ReplayAnswer} (record { number = n; applies = false; evaluations = 0; changes = 0; rises = 0; first = 0; last = 0; table = after }) (replayed_form form l)
+  replay_refused after r n e f = (λ i. record { number = f i; applies = false; evaluations = 0; changes = 0; rises = 0; first = 0; last = 0; table = after }) ∙ e
 
   -- what the theorems say of an answer
   module _ (r : ReplayAnswer) (e : r ≡ replayed_form form l) where
@@ -214,7 +207,5 @@ module _ (form : TableForm) (l : Log) where
     )
 
 pub ruleset formWays = (refused_stray, refused_broken, length_mapped, store_none, store_put)
-
-pub ruleset toldWays = (replay_told, replay_refused)
 
 pub ruleset callWays = (length_mapped, empty_form_lem, evaluate_refused, advertise_form, report_form, forget_form, evaluate_done)

@@ -4,7 +4,7 @@ use Rattle.std.specs.Prelude.{ℕ, Bool, true, false, not, cond, ◌||◌, eqb, 
 use Rattle.octets_spec.specs.Choice.{if_on}
 use Rattle.refusal.specs.declared.Refusal.{Refusal}
 use Rattle.refusal.specs.declared.Refusal.TheVariants.{OutOfLimits}
-use Rattle.refusal.specs.Refusal.{number_of, out_of_limits}
+use Rattle.refusal.specs.Refusal.{done, number_of, out_of_limits}
 use Rattle.nbr_metric_spec.specs.declared.Place.{Place}
 use Rattle.nbr_metric_spec.specs.Metric.{blank}
 use Rattle.nbr_table_spec.specs.declared.Store.{Store}
@@ -13,7 +13,7 @@ use Rattle.nbr_table_spec.specs.Calls.{Answer, Evaluation, advertised, broken, e
 use Rattle.nbr_table_spec.specs.Stores.{Change, stored}
 use Rattle.nbr_replay_spec.specs.declared.Outcome.{Outcome as Ended}
 use Rattle.nbr_replay_spec.specs.Log.{Log}
-use Rattle.nbr_replay_spec.specs.Replay.{Outcome, outcome_of, replayed}
+use Rattle.nbr_replay_spec.specs.Replay.{Outcome, replayed}
 use Rattle.c_table_spec.specs.declared.TableForm.{TableForm}
 use Rattle.c_table_spec.specs.declared.TableAnswer.{TableAnswer}
 use Rattle.c_table_spec.specs.declared.EvaluationAnswer.{EvaluationAnswer}
@@ -115,9 +115,19 @@ abbrev pub replay_refusal : TableForm → ReplayAnswer
 replay_refusal form =
     record { number = out_of_limits; applies = false; evaluations = 0; changes = 0; rises = 0; first = 0; last = 0; table = form }
 
--- what C is told of a log's outcome
+-- what C is told of a log's outcome that leaves this C form
 abbrev pub outcome_told : TableForm → Result Ended Refusal → ReplayAnswer
-outcome_told form (Ok ended) = outcome_form (outcome_of (table_of form) (Ok ended))
+outcome_told form (Ok ended) =
+    record {
+      number = done;
+      applies = ended.applies;
+      evaluations = ended.evaluations;
+      changes = ended.changes;
+      rises = ended.rises;
+      first = ended.first;
+      last = ended.last;
+      table = form;
+    }
 outcome_told form (Err refusal) =
     record { number = number_of refusal; applies = false; evaluations = 0; changes = 0; rises = 0; first = 0; last = 0; table = form }
 

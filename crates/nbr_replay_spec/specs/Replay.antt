@@ -51,12 +51,12 @@ outcome table calls =
 unfoldable pub replayed : Table → Log → Outcome
 replayed table rows = if_on (broken table) (refused_replay out_of_limits table) (if_on (unfit_log rows) (refused_replay out_of_limits table) (outcome table (calls rows)))
 
--- what an answer of code says, of a log on a table
+-- what an answer of code says that leaves this table
 abbrev pub outcome_of : Table → Result Ended Refusal → Outcome
 outcome_of table (Ok ended) =
     record {
       number = done;
-      table = ended.table;
+      table = table;
       evaluations = ended.evaluations;
       changes = ended.changes;
       rises = ended.rises;

@@ -26,12 +26,11 @@ pub enum Call {
     Evaluate,
 }
 
-// What a log comes to: the table at the end, how many evaluations there were, how many of them changed the parent, all
+// What a log comes to besides the table, which is lent: how many evaluations there were, how many of them changed the parent, all
 // rises of the held parent's cost between one evaluation and the next, its cost on entry to the first and on exit from the
 // last, and whether the claim applies: at least one evaluation, and at each an eligible parent on entry.
 #[derive(Clone, Copy)]
 pub struct Outcome {
-    pub table: nbr_table_spec::Table,
     pub evaluations: u32,
     pub changes: u32,
     pub rises: u64,
